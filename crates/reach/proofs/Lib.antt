@@ -1,0 +1,5 @@
+pub mod Targets
+mod Counting
+pub mod Reaching
+pub mod Rounds
+pub mod Offering

@@ -1,0 +1,4 @@
+pub mod Reach
+pub mod Offers
+pub mod Laws
+pub mod Shuttle

@@ -1,0 +1,70 @@
+// What a rule of the grammar asks of the next token.
+ghost use mathlib.Core.Path.{_≡_};
+ghost use Rattle.std.specs.shelf.Text.{sameBytes};
+use common::Located;
+use lexer::Placed;
+use lexer::TextFault;
+use lexer::Token;
+use lexer::next_token;
+
+// A word of the text, its place and the place after it.
+#[derive(Clone, Copy)]
+pub struct WordAt<'a> {
+    pub letters: &'a [u8],
+    pub place: usize,
+    pub next: usize,
+}
+
+// The next token; the end of the text is at fault where a token must stand.
+fn expected<'a>(text: &'a [u8], from: usize) -> Result<Placed<'a>, Located<TextFault>> {
+    match next_token(text, from)? {
+        Some(t) => Ok(t),
+        None => Err(Located::at(TextFault::Unexpected, text.len())),
+    }
+}
+
+// An opening bracket: the place after it.
+pub(crate) fn open(text: &[u8], from: usize) -> Result<usize, Located<TextFault>> {
+    let t = expected(text, from)?;
+    match t.token {
+        Token::Open => Ok(t.next),
+        _ => Err(Located::at(TextFault::Unexpected, t.place)),
+    }
+}
+
+// A closing bracket: the place after it.
+pub(crate) fn close(text: &[u8], from: usize) -> Result<usize, Located<TextFault>> {
+    let t = expected(text, from)?;
+    match t.token {
+        Token::Close => Ok(t.next),
+        _ => Err(Located::at(TextFault::Unexpected, t.place)),
+    }
+}
+
+// A word.
+pub(crate) fn word<'a>(text: &'a [u8], from: usize) -> Result<WordAt<'a>, Located<TextFault>> {
+    let t = expected(text, from)?;
+    match t.token {
+        Token::Word(letters) => Ok(WordAt {
+            letters,
+            place: t.place,
+            next: t.next,
+        }),
+        _ => Err(Located::at(TextFault::Unexpected, t.place)),
+    }
+}
+
+// The end of the text.
+pub(crate) fn finish(text: &[u8], from: usize) -> Result<(), Located<TextFault>> {
+    match next_token(text, from)? {
+        Some(t) => Err(Located::at(TextFault::Unexpected, t.place)),
+        None => Ok(()),
+    }
+}
+
+// Are the two words the same?
+pub(crate) fn same(a: &[u8], b: &[u8]) -> bool
+    ensures { λ r. ⌜ r ≡ sameBytes (now (a .entry)) (now (b .entry)) ⌝ }
+{
+    a == b
+}

@@ -1,0 +1,11 @@
+// The search: a certificate that every trace of the plan is one of the permit, or a shortest trace that is not.
+mod answer;
+mod follow;
+mod inclusion;
+mod listing;
+mod shown;
+
+pub use answer::Answer;
+pub use answer::SearchFault;
+pub use answer::SearchFaultNumbered;
+pub use inclusion::certify;
