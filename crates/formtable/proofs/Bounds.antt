@@ -30,7 +30,7 @@ module _ (rs : List Record) (w : Formed rs) where
       let s = inside rs (w .laid) i (moves-within i a j m) in
       motions-known rs (w .known) (s .1) a j (subst (λ (ms : List Move). HasMove ms a j) (moves-at rs (w .laid) (s .1)) m)
 
-  target-at : (i a j : ℕ) → Steps (process rs) i a j → j < length rs
+  pub target-at : (i a j : ℕ) → Steps (process rs) i a j → j < length rs
   target-at i a j m =
       let s = inside rs (w .laid) i (moves-within i a j m) in
       targets-within rs (w .bound) (s .1) a j (subst (λ (ms : List Move). HasMove ms a j) (moves-at rs (w .laid) (s .1)) m)

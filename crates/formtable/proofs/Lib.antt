@@ -4,3 +4,12 @@ pub mod Loops
 pub mod Vetted
 pub mod Motions
 pub mod Bounds
+pub mod Put
+pub mod Subterms
+pub mod Filled
+pub mod Faith
+pub mod Runs
+pub mod Free
+pub mod Guards
+pub mod Written
+pub mod Meanings

@@ -9,7 +9,7 @@ use native.Mathlib.Numerals.{add-one}
 use lib.ListN.{length, getD, drop, take, set}
 use Rattle.std.proofs.shelf.Lists.{take-more, take-more-set}
 use lib.Seq.{drop-cons}
-use Rattle.std.proofs.shelf.Tests.{and-parts, and-from, and-left, and-right, or-left, or-right, or-from, cases-lt, false≢true}
+use Rattle.std.proofs.shelf.Tests.{and-parts, and-from, and-left, and-right, or-left, or-right, or-from, cases-lt, false≢true, true≢false}
 use Rattle.formtable.specs.Vet.{each, some, allowed, allAllowed}
 use Rattle.formtable.specs.declared.record.Record.{Record}
 
@@ -63,3 +63,12 @@ some-at p (suc n) e = here (λ q. some-at p n q) (some p n) refl (p n) refl e
     here k true q b r s = let v = k q in (v .0, omega (arith, v .1), v .2)
     here k false q true r s = (n, omega arith, r)
     here k false q false r s = absurd (false≢true s)
+
+pub each-not : (p : ℕ → Bool) (n : ℕ) → each p n ≡ false → (i : ℕ) × (i < n) × (p i ≡ false)
+each-not p zero e = absurd (true≢false e)
+each-not p (suc n) e = here (λ q. each-not p n q) (each p n) refl (p n) refl e
+  where
+    here : (each p n ≡ false → (i : ℕ) × (i < n) × (p i ≡ false)) → (a : Bool) → each p n ≡ a → (b : Bool) → p n ≡ b → (a && b) ≡ false → (i : ℕ) × (i < suc n) × (p i ≡ false)
+    here k false q b r s = let v = k q in (v .0, omega (arith, v .1), v .2)
+    here k true q false r s = (n, omega arith, r)
+    here k true q true r s = absurd (true≢false s)

@@ -2,5 +2,9 @@ pub mod Kinds
 pub mod Layout
 pub mod Faults
 pub mod Vet
+pub mod Terms
+pub mod Places
+pub mod Written
 pub mod Meaning
 pub mod Table
+pub mod Examples

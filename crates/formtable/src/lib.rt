@@ -1,4 +1,5 @@
 // Form tables: a term of a process written as a list of records, vetted before it is used.
+pub mod examples;
 pub mod fault;
 mod layout;
 pub mod record;

@@ -22,10 +22,7 @@ const OUTPUT: usize = 9_241;
 fn run(rt: &LibcRuntime) -> Result<(), AnyError> {
     let mut text = Vec::new(rt.alloc());
     rt.stdin().take(INPUT).read_to_end(&mut text)?;
-    let mut records = vec![in rt.alloc(); Record {
-        kind: 0,
-        argument: 0
-    }; LIST]?;
+    let mut records = vec![in rt.alloc(); Record::EMPTY; LIST]?;
     let mut rows = vec![in rt.alloc(); Row::empty(); LIST]?;
     let mut motions = vec![in rt.alloc(); 0u8; LIST]?;
     let mut out = vec![in rt.alloc(); 0u8; OUTPUT]?;

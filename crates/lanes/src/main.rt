@@ -17,10 +17,7 @@ const LIST: usize = 64;
 const OUTPUT: usize = 1_024;
 
 fn run(rt: &LibcRuntime) -> Result<(), AnyError> {
-    let mut records = vec![in rt.alloc(); Record {
-        kind: 0,
-        argument: 0
-    }; LIST]?;
+    let mut records = vec![in rt.alloc(); Record::EMPTY; LIST]?;
     let mut rows = vec![in rt.alloc(); Row::empty(); LIST]?;
     let mut motions = vec![in rt.alloc(); 0u8; LIST]?;
     let mut out = vec![in rt.alloc(); 0u8; OUTPUT]?;

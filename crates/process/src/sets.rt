@@ -3,6 +3,7 @@ ghost use mathlib.Core.Path.{_≡_};
 ghost use Prim.Native.Nat.{ℕ};
 ghost use lib.Bits.{bitOr};
 ghost use lib.Dec.{eqb};
+ghost use Rattle.process.specs.SetLaws.{SetLaws};
 ghost use Rattle.process.specs.Sets.{has, inserted, single, within};
 
 // How many states a set can have.
@@ -19,6 +20,13 @@ fn bit(bits: u64, t: u8) -> bool
     ensures { λ r. ⌜ r ≡ has bits t ⌝ }
 {
     t < STATES && (bits >> t) % 2 == 1
+}
+
+// The bits of either number.
+fn either(a: u64, b: u64) -> u64
+    ensures { λ r. ⌜ r ≡ bitOr a b ⌝ }
+{
+    a | b
 }
 
 impl StateSet {
@@ -56,12 +64,13 @@ impl StateSet {
         }
     }
 
-    // The states of either set.
+    // The states of either set. With it stands what all these operations mean for the states of a set.
     pub fn union(self, other: StateSet) -> Self
-        ensures { λ r. ⌜ r .bits ≡ bitOr (self .bits) (other .bits) ⌝ }
+        ensures value { λ r. ⌜ r .bits ≡ bitOr (self .bits) (other .bits) ⌝ }
+        ensures laws { λ _. ⌜ SetLaws ⌝ }
     {
         StateSet {
-            bits: self.bits | other.bits,
+            bits: either(self.bits, other.bits),
         }
     }
 

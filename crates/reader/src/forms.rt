@@ -113,10 +113,7 @@ pub(crate) fn form(
     };
     match shape {
         Shape::End => {
-            records[count] = Record {
-                kind: 0,
-                argument: 0,
-            };
+            records[count] = Record::EMPTY;
             let end = close(text, next)?;
             Ok(Progress {
                 at: end,

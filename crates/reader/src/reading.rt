@@ -62,10 +62,7 @@ fn clear(records: &mut [Record], from: usize)
     requires { ⌜ from ≤ length (now records) ⌝ }
     ensures { λ _. ⌜ now (records .exit) ≡ take from (now (records .entry)) ++ replicate (length (now (records .entry)) - from) emptyRecord ⌝ }
 {
-    records[from..].fill(Record {
-        kind: 0,
-        argument: 0,
-    });
+    records[from..].fill(Record::EMPTY);
 }
 
 // Reads a plan; records after its count are empty, and after a refusal every record is.

@@ -1,7 +1,7 @@
 // The call that makes a report out of a text.
 ghost use mathlib.Core.Path.{_≡_};
 ghost use lib.ListN.{length};
-ghost use Rattle.report.specs.Leaves.{Leaves};
+ghost use Rattle.report.specs.Leaves.{Emptied, Leaves};
 ghost use Rattle.report.specs.Lines.{Shown};
 use crate::lines::Outcome;
 use crate::lines::put_outcome;
@@ -63,6 +63,15 @@ fn judged<'a, Q: Process>(
     }
 }
 
+// Empties every list.
+fn empty_lists(records: &mut [Record], rows: &mut [Row], motions: &mut [u8])
+    ensures { λ _. ⌜ Emptied (now (records .exit)) (now (rows .exit)) (now (motions .exit)) ⌝ }
+{
+    records.fill(Record::EMPTY);
+    rows.fill(Row::empty());
+    motions.fill(0);
+}
+
 // Reports on the plan that a text writes, against a permit: the count of the bytes written to `out`, with zeros after
 // them. The lists are as reader and search leave them, and all empty after a refusal. Where the bytes do not fit,
 // `out` is zeroed and every list is empty.
@@ -78,10 +87,7 @@ pub fn report<Q: Process>(
 {
     let outcome = judged(text, permit, records, rows, motions);
     if let Outcome::Refused(_, _) = outcome {
-        records.fill(Record {
-            kind: 0,
-            argument: 0,
-        });
+        empty_lists(records, rows, motions);
     }
     match put_outcome(out, outcome, motions) {
         Ok(count) => {
@@ -90,12 +96,7 @@ pub fn report<Q: Process>(
         }
         Err(fault) => {
             clear_from(out, 0);
-            records.fill(Record {
-                kind: 0,
-                argument: 0,
-            });
-            rows.fill(Row::empty());
-            motions.fill(0);
+            empty_lists(records, rows, motions);
             Err(fault)
         }
     }

@@ -4,6 +4,7 @@ ghost use Prim.Native.Nat.{_≤_};
 ghost use lib.ListN.{length, take};
 ghost use Rattle.common.specs.Faults.{numbered};
 ghost use Rattle.formtable.specs.Faults.{formNumber};
+ghost use Rattle.formtable.specs.Meaning.{Judged, Meant};
 ghost use Rattle.formtable.specs.Table.{contents, held, meaning as meant, single};
 ghost use Rattle.formtable.specs.Vet.{verdict};
 use crate::fault::FormFault;
@@ -40,7 +41,18 @@ impl FormTable {
     }
 
     // Takes the records over if they pass every test, and is a single end if not.
+    // What it then holds means what its terms do; the answer says which terms write the records.
     pub fn vet(&mut self, raw: &[Record]) -> Result<(), FormFault>
+        ensures answer { λ r. ⌜ numbered formNumber r ≡ verdict (now (raw .entry)) ⌝ }
+        ensures after { λ _. ⌜ contents (now (self .exit)) ≡ held (verdict (now (raw .entry))) (now (raw .entry)) ⌝ }
+        ensures means { λ _. ⌜ Meant (contents (now (self .exit))) ⌝ }
+        ensures judged { λ _. ⌜ Judged (now (raw .entry)) ⌝ }
+    {
+        self.take_over(raw)
+    }
+
+    // The same, with no word of terms.
+    fn take_over(&mut self, raw: &[Record]) -> Result<(), FormFault>
         ensures answer { λ r. ⌜ numbered formNumber r ≡ verdict (now (raw .entry)) ⌝ }
         ensures after { λ _. ⌜ contents (now (self .exit)) ≡ held (verdict (now (raw .entry))) (now (raw .entry)) ⌝ }
     {
