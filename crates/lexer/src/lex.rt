@@ -1,6 +1,7 @@
 // Reading one token of a text.
 ghost use mathlib.Core.Path.{_≡_};
 ghost use Prim.Native.Nat.{_≤_};
+ghost use lib.Dec.{leb};
 ghost use lib.ListN.{length, drop};
 ghost use Rattle.std.specs.shelf.Lists.{leading};
 ghost use Rattle.lexer.specs.Bytes.{classOf, wordy};
@@ -49,6 +50,13 @@ fn word_len(rest: &[u8]) -> usize
     rest.len()
 }
 
+// Is a run of so many letters and digits a word?
+fn short_enough(n: usize) -> bool
+    ensures { λ r. ⌜ r ≡ leb n 8 ⌝ }
+{
+    n <= MAX_WORD
+}
+
 // The word at a place, or the fault of a word over 8 bytes.
 fn word_at<'a>(text: &'a [u8], i: usize) -> Result<Option<Placed<'a>>, Located<TextFault>>
     requires { ⌜ i ≤ length (now text) ⌝ }
@@ -56,17 +64,18 @@ fn word_at<'a>(text: &'a [u8], i: usize) -> Result<Option<Placed<'a>>, Located<T
     ensures part { λ r. ⌜ InText (text .entry) r ⌝ }
 {
     let n = word_len(&text[i..]);
-    if n > MAX_WORD {
-        return Err(Located {
+    if short_enough(n) {
+        Ok(Some(Placed {
+            token: Token::Word(&text[i..i + n]),
+            place: i,
+            next: i + n,
+        }))
+    } else {
+        Err(Located {
             fault: TextFault::BadToken,
             place: i,
-        });
+        })
     }
-    Ok(Some(Placed {
-        token: Token::Word(&text[i..i + n]),
-        place: i,
-        next: i + n,
-    }))
 }
 
 // The first token from a place on; None where only blanks are left.

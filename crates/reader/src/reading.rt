@@ -1,12 +1,14 @@
 // The whole text of a plan.
 ghost use mathlib.Core.Path.{_≡_};
 ghost use mathlib.Core.List.{_++_};
-ghost use Prim.Native.Nat.{_≤_, _<_, _-_};
+ghost use Prim.Native.Nat.{_≤_, _-_};
 ghost use lib.ListN.{length, take, replicate};
 ghost use Rattle.std.specs.Results.{Cases};
-ghost use Rattle.reader.specs.Reading.{Leaves, emptyRecord};
-use crate::forms::Progress;
+ghost use Rattle.reader.specs.Promises.{Spells, Vets};
+ghost use Rattle.reader.specs.Reading.{keyAt, planAt, readPlan, Plans, Told, Leaves, emptyRecord};
+ghost use Rattle.reader.specs.Stops.{Stops};
 use crate::forms::form;
+use crate::heads::Progress;
 use crate::scope::Scope;
 use crate::words::close;
 use crate::words::finish;
@@ -28,7 +30,9 @@ pub struct Plan<'a> {
 }
 
 // The word plan: the place after it.
-fn keyword(text: &[u8], from: usize) -> Result<usize, Located<TextFault>> {
+fn keyword(text: &[u8], from: usize) -> Result<usize, Located<TextFault>>
+    ensures { λ r. ⌜ r ≡ keyAt (now (text .entry)) from ⌝ }
+{
     let w = word(text, from)?;
     if same(w.letters, b"plan") {
         Ok(w.next)
@@ -39,7 +43,8 @@ fn keyword(text: &[u8], from: usize) -> Result<usize, Located<TextFault>> {
 
 // (plan NAME TERM), and nothing after it.
 fn whole<'a>(text: &'a [u8], records: &mut [Record]) -> Result<Plan<'a>, Located<TextFault>>
-    ensures { λ r. ⌜ Cases r (λ x. (0 < x .count) × (x .count ≤ 64) × (x .count ≤ length (now (records .entry)))) (λ _. Unit {0}) ⌝ }
+    ensures within { λ r. ⌜ Cases r (λ x. x .count ≤ length (now (records .entry))) (λ _. Unit {0}) ⌝ }
+    ensures reads { λ r. ⌜ Plans (planAt (now (text .entry)) (length (now (records .entry)))) (text .entry) (now (records .entry)) r (now (records .exit)) ⌝ }
 {
     let bracket = open(text, 0)?;
     let key = keyword(text, bracket)?;
@@ -62,12 +67,18 @@ fn clear(records: &mut [Record], from: usize)
     requires { ⌜ from ≤ length (now records) ⌝ }
     ensures { λ _. ⌜ now (records .exit) ≡ take from (now (records .entry)) ++ replicate (length (now (records .entry)) - from) emptyRecord ⌝ }
 {
-    records[from..].fill(Record::EMPTY);
+    records[from..].fill(Record {
+        kind: 0,
+        argument: 0,
+    });
 }
 
-// Reads a plan; records after its count are empty, and after a refusal every record is.
-pub fn read<'a>(text: &'a [u8], records: &mut [Record]) -> Result<Plan<'a>, Located<TextFault>>
-    ensures { λ r. ⌜ Leaves r (length (now (records .entry))) (now (records .exit)) ⌝ }
+// Reads a plan, or tells its first fault, and empties the records that the plan does not have.
+fn read_and_clear<'a>(
+    text: &'a [u8],
+    records: &mut [Record],
+) -> Result<Plan<'a>, Located<TextFault>>
+    ensures { λ r. ⌜ Told (readPlan (now (text .entry)) (length (now (records .entry)))) (text .entry) (length (now (records .entry))) r (now (records .exit)) ⌝ }
 {
     if text.len() > MAX_TEXT {
         clear(records, 0);
@@ -83,4 +94,15 @@ pub fn read<'a>(text: &'a [u8], records: &mut [Record]) -> Result<Plan<'a>, Loca
             Err(fault)
         }
     }
+}
+
+// Reads a plan; records after its count are empty, and after a refusal every record is.
+pub fn read<'a>(text: &'a [u8], records: &mut [Record]) -> Result<Plan<'a>, Located<TextFault>>
+    ensures is { λ r. ⌜ Told (readPlan (now (text .entry)) (length (now (records .entry)))) (text .entry) (length (now (records .entry))) r (now (records .exit)) ⌝ }
+    ensures leaves { λ r. ⌜ Leaves r (length (now (records .entry))) (now (records .exit)) ⌝ }
+    ensures spells { λ r. ⌜ Spells (text .entry) (length (now (records .entry))) r (now (records .exit)) ⌝ }
+    ensures vets { λ r. ⌜ Vets r (now (records .exit)) ⌝ }
+    ensures stops { λ r. ⌜ Stops (now (text .entry)) (length (now (records .entry))) r ⌝ }
+{
+    read_and_clear(text, records)
 }

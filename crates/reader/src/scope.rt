@@ -1,13 +1,16 @@
 // What stands around a form: the names that are bound there, and the nearest do.
 ghost use mathlib.Core.Path.{_≡_};
-ghost use Prim.Native.Nat.{_+_, _≤_, _<_};
+ghost use mathlib.Core.List.{List, [], _∷_};
+ghost use Prim.Native.Nat.{ℕ, _+_, _≤_, _<_};
+ghost use Rattle.reader.specs.Tokens.{lettersAt};
+ghost use Rattle.reader.specs.Reading.{around, binds, lookup};
+use crate::words::letters_at;
 use crate::words::same;
-use crate::words::word;
 
 // How many forms a plan may have, and so how many names may be bound at one place.
 pub(crate) const MAX_FORMS: usize = 64;
 
-// A bound name: where it stands in the text, and the place of its rec.
+// A bound name: from where in the text it is read, and the place of its rec.
 #[derive(Clone, Copy)]
 pub struct Binding {
     pub name: usize,
@@ -37,7 +40,8 @@ impl Scope {
     // Inside a rec that binds a name.
     pub(crate) fn binding(self, name: usize, rec: usize) -> Scope
         requires { ⌜ self .depth < 64 ⌝ }
-        ensures { λ r. ⌜ (r .depth ≡ self .depth + 1) × (r .guard ≡ self .guard) ⌝ }
+        ensures deeper { λ r. ⌜ (r .depth ≡ self .depth + 1) × (r .guard ≡ self .guard) ⌝ }
+        ensures names { λ r. ⌜ ((s : List ℕ) → around s r ≡ binds (lettersAt s name) rec ∷ around s self) ⌝ }
     {
         let mut inner = self;
         let depth = inner.depth;
@@ -48,7 +52,8 @@ impl Scope {
 
     // Inside the do at a place.
     pub(crate) fn guarded(self, place: usize) -> Scope
-        ensures { λ r. ⌜ (r .depth ≡ self .depth) × (r .guard ≡ place) ⌝ }
+        ensures deeper { λ r. ⌜ (r .depth ≡ self .depth) × (r .guard ≡ place) ⌝ }
+        ensures names { λ r. ⌜ ((s : List ℕ) → around s r ≡ around s self) ⌝ }
     {
         let mut inner = self;
         inner.guard = place;
@@ -58,23 +63,16 @@ impl Scope {
     // The place of the innermost rec around that binds the name.
     pub(crate) fn find(&self, text: &[u8], name: &[u8]) -> Option<usize>
         requires { ⌜ now self .depth ≤ 64 ⌝ }
+        ensures { λ r. ⌜ r ≡ lookup (around (now (text .entry)) (now (self .entry))) (now (name .entry)) ⌝ }
     {
         let mut i = self.depth;
         while i > 0 {
             i -= 1;
             let b = self.bound[i];
-            if names(text, b.name, name) {
+            if same(letters_at(text, b.name), name) {
                 return Some(b.rec);
             }
         }
         None
-    }
-}
-
-// Does the word that stands at a place have these letters?
-fn names(text: &[u8], at: usize, letters: &[u8]) -> bool {
-    match word(text, at) {
-        Ok(w) => same(w.letters, letters),
-        Err(_) => false,
     }
 }

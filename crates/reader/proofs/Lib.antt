@@ -1,0 +1,15 @@
+mod Spots
+mod Scopes
+mod Steps
+mod Whole
+mod Tables
+mod Vets
+mod Meanings
+mod Spellings
+mod Texts
+mod Grammar
+mod Contexts
+mod Reasons
+mod Stopping
+mod Faults
+mod Refusals
