@@ -1,3 +1,5 @@
+pub mod Engine
+pub mod Search
+pub mod Rule
 pub mod Answers
-pub mod Follow
-pub mod Listing
+pub mod Theorems

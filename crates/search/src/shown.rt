@@ -1,17 +1,19 @@
 // The motions that lead to a row, read along back.
 ghost use mathlib.Core.Path.{_≡_};
-ghost use Prim.Native.Nat.{ℕ, _+_, _≤_, _<_};
+ghost use mathlib.Core.List.{[], _∷_};
+ghost use Prim.Native.Nat.{ℕ, suc, _≤_, _<_};
 ghost use lib.ListN.{length};
-ghost use Rattle.std.specs.Results.{Cases};
-ghost use Rattle.search.specs.Listing.{Earlier};
-use crate::answer::SearchFault;
+ghost use Rattle.search.specs.Answers.{Earlier, deep, shownOf, ShownFit};
+ghost use Rattle.search.specs.Engine.{trail};
+ghost use Rattle.search.specs.Search.{shown as shownWith};
 use certificate::Row;
 
 // How many motions lead from row 0 to row i.
 fn depth(rows: &[Row], i: usize) -> usize
     requires inside { ⌜ i < length (now rows) ⌝ }
-    requires earlier { ⌜ Earlier (i + 1) (now rows) ⌝ }
-    ensures { λ r. ⌜ r ≤ i ⌝ }
+    requires earlier { ⌜ Earlier (suc i) (now rows) ⌝ }
+    ensures value { λ r. ⌜ r ≡ deep i (now (rows .entry)) i ⌝ }
+    ensures small { λ r. ⌜ r ≤ i ⌝ }
 {
     let mut n = 0;
     let mut at = i;
@@ -25,20 +27,17 @@ fn depth(rows: &[Row], i: usize) -> usize
     n
 }
 
-// Writes the motions that lead to row i, earliest first, and then the last one: how many they are.
-pub(crate) fn show(
-    rows: &[Row],
-    i: usize,
-    last: u8,
-    motions: &mut [u8],
-) -> Result<usize, SearchFault>
+// Writes the motions that lead to row i, earliest first, and then the last one: how many they are, or None if there
+// is no room for them.
+pub(crate) fn show(rows: &[Row], i: usize, last: u8, motions: &mut [u8]) -> Option<usize>
     requires inside { ⌜ i < length (now rows) ⌝ }
-    requires earlier { ⌜ Earlier (i + 1) (now rows) ⌝ }
-    ensures { λ r. ⌜ Cases r (λ n. (0 < n) × (n ≤ length (now (motions .entry)))) (λ _. Unit {0}) ⌝ }
+    requires earlier { ⌜ Earlier (suc i) (now rows) ⌝ }
+    ensures value { λ r. ⌜ shownOf r (now (motions .exit)) ≡ shownWith (length (now (motions .entry))) (trail i (now (rows .entry)) i (last ∷ [])) ⌝ }
+    ensures fit { λ r. ⌜ ShownFit r (length (now (motions .entry))) ⌝ }
 {
     let before = depth(rows, i);
     if before >= motions.len() {
-        return Err(SearchFault::MotionsShort);
+        return None;
     }
     motions[before] = last;
     let mut at = i;
@@ -46,5 +45,5 @@ pub(crate) fn show(
         motions[k] = rows[at].by;
         at = rows[at].back as usize;
     }
-    Ok(before + 1)
+    Some(before + 1)
 }

@@ -4,15 +4,15 @@ ghost use Prim.Native.Nat.{ℕ};
 ghost use Rattle.std.specs.Options.{mapped};
 ghost use Rattle.std.specs.declared.option.Option.{Option};
 ghost use Rattle.process.specs.declared.moves.Move.{Move};
-ghost use Rattle.search.specs.Follow.{someOf};
-ghost use Rattle.reach.specs.Reach.{after as afterOf};
+ghost use Rattle.gate.specs.Follow.{plain};
+ghost use Rattle.search.specs.Rule.{leadsTo};
 use process::Move as Step;
 use process::Process;
 use process::StateSet;
 use reach::after;
 
 // A rule says the set of the first row, and the set that a move leads to from a row's set, or that there is none.
-pub trait Follow {
+pub trait Rule {
     ghost begins: { Self → ℕ };
 
     ghost leads: { Self → ℕ → Move → Option ℕ };
@@ -30,10 +30,10 @@ pub struct Permit<'a, Q> {
     pub process: &'a Q,
 }
 
-pub impl<'a, Q: Process> Follow for Permit<'a, Q> as PermitFollow {
-    ghost begins = { λ _. 1 };
+pub impl<'a, Q: Process> Rule for Permit<'a, Q> as PermitRule {
+    ghost begins = { λ f. plain .start (Q·Process .meaning (f .process .now)) };
 
-    ghost leads = { λ f T m. someOf (afterOf (Q·Process .meaning (f .process .now)) T (m .motion)) };
+    ghost leads = { λ f. leadsTo plain (Q·Process .meaning (f .process .now)) };
 
     fn start(&self) -> StateSet {
         StateSet::single(0)

@@ -1,0 +1,11 @@
+pub mod Faults
+pub mod Listed
+pub mod Copied
+pub mod Histories
+pub mod Rules
+pub mod Runs
+pub mod Answers
+pub mod Record
+pub mod Accounts
+pub mod Whole
+pub mod View

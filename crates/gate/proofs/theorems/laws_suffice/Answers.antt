@@ -1,0 +1,5 @@
+use Rattle.gate.proofs.Soundness.{laws-suffice}
+use Rattle.gate.proofs.theorems.laws_suffice.Needs as need
+
+pub returns : need.returns
+returns c = laws-suffice

@@ -1,0 +1,5 @@
+pub mod Follow
+pub mod Gate
+pub mod Theorems
+pub mod Faults
+pub mod Yard
