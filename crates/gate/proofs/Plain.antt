@@ -12,8 +12,10 @@ use Rattle.process.specs.Sets.{has, only, In, Within}
 use Rattle.certificate.specs.declared.Row.{Row}
 use Rattle.reach.proofs.Reaching.{after-laws}
 use Rattle.gate.specs.Follow.{AfterLaws, plain}
-use Rattle.gate.specs.Gate.{Verdict, accepted, gate, Certifies}
+use Rattle.gate.specs.Gate.{Verdict, accepted, refused, gate, Certifies}
+use Rattle.gate.specs.Refusals.{Refused}
 use Rattle.gate.specs.Theorems.{Included, GateHolds}
+use Rattle.gate.proofs.Refusing.{refuses-exact}
 use Rattle.gate.proofs.Soundness.{laws-suffice}
 
 both-imply : (x y : Bool) → (x ≡ true → y ≡ true) → (y ≡ true → x ≡ true) → x ≡ y
@@ -54,12 +56,15 @@ pub verdict-tells : (plan permit : Proc) → Limits plan → Limits permit → (
     → record {
       exact : v ≡ gate plain plan permit rows;
       accepts : (v ≡ accepted) ↔ Certifies plain plan permit rows;
+      refuses : (n i : ℕ) → (v ≡ refused n i) ↔ Refused plain plan permit rows n i;
       sound : v ≡ accepted → Included plan permit;
     }
 verdict-tells plan permit L M rows v e =
     let G = plain-holds .gate-exact plan permit L M rows in
+    let R = refuses-exact plain plain-laws plan permit L M rows in
     record {
       exact = e;
       accepts = (λ a. G .0 (sym e ∙ a), λ C. e ∙ G .1 C);
+      refuses = λ n i. (λ a. R n i .0 (sym e ∙ a), λ h. e ∙ R n i .1 h);
       sound = λ a. plain-holds .gate-sound plan permit L M rows (sym e ∙ a);
     }

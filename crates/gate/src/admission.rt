@@ -1,9 +1,11 @@
 // The call that checks a certificate.
 ghost use mathlib.Core.Path.{_≡_};
 ghost use mathlib.Core.Logic.{_↔_};
+ghost use Prim.Native.Nat.{ℕ};
 ghost use Rattle.gate.specs.Faults.{verdictOf};
 ghost use Rattle.gate.specs.Follow.{plain};
-ghost use Rattle.gate.specs.Gate.{accepted, gate, Certifies};
+ghost use Rattle.gate.specs.Gate.{accepted, refused, gate, Certifies};
+ghost use Rattle.gate.specs.Refusals.{Refused};
 ghost use Rattle.gate.specs.Theorems.{Included};
 use crate::cover::last_test;
 use crate::fault::CertificateFault;
@@ -33,6 +35,7 @@ pub fn check<P: Process, Q: Process>(
 ) -> Result<(), Located<CertificateFault>>
     ensures exact { λ r. ⌜ verdictOf r ≡ gate plain (P·Process .meaning (now (plan .entry))) (Q·Process .meaning (now (permit .entry))) (now (rows .entry)) ⌝ }
     ensures accepts { λ r. ⌜ (verdictOf r ≡ accepted) ↔ Certifies plain (P·Process .meaning (now (plan .entry))) (Q·Process .meaning (now (permit .entry))) (now (rows .entry)) ⌝ }
+    ensures refuses { λ r. ⌜ ((n i : ℕ) → (verdictOf r ≡ refused n i) ↔ Refused plain (P·Process .meaning (now (plan .entry))) (Q·Process .meaning (now (permit .entry))) (now (rows .entry)) n i) ⌝ }
     ensures sound { λ r. ⌜ (verdictOf r ≡ accepted → Included (P·Process .meaning (now (plan .entry))) (Q·Process .meaning (now (permit .entry)))) ⌝ }
 {
     tested(plan, permit, rows)

@@ -17,7 +17,7 @@ use Rattle.certificate.specs.Rows.{emptyRow}
 use Rattle.certificate.specs.declared.Row.{Row}
 use Rattle.gate.specs.Follow.{Follow, AfterLaws}
 use Rattle.search.specs.Engine.{Stage, going, Ended, listing}
-use Rattle.search.specs.Rule.{engine}
+use Rattle.search.specs.Rule.{searchFor}
 use Rattle.search.specs.Theorems.{Ends}
 use Rattle.search.proofs.Ways.{at-getD}
 use Rattle.search.proofs.Limits.{stage-cases, going-long}
@@ -78,17 +78,17 @@ module _ (F : Follow) (A : AfterLaws F) (plan permit : Proc) (L : Limits plan) (
           (sym (high (at j .state) (permit .states) (small j l)) ∙ ap (λ (n : ℕ). n / 2 ^ permit .states) e ∙ high (at k .state) (permit .states) (small k m))
           (sym (low (at j .state) (permit .states) (small j l)) ∙ ap (λ (n : ℕ). n % 2 ^ permit .states) e ∙ low (at k .state) (permit .states) (small k m))
 
-  ends : Ended (listing (engine F plan permit) (suc most))
-  ends = ⊎-elim (λ e. e) still (stage-cases (listing (engine F plan permit) (suc most)))
+  ends : Ended (listing (searchFor F plan permit) (suc most))
+  ends = ⊎-elim (λ e. e) still (stage-cases (listing (searchFor F plan permit) (suc most)))
     where
-      still : (rows : List Row) × (listing (engine F plan permit) (suc most) ≡ going rows) → Ended (listing (engine F plan permit) (suc most))
+      still : (rows : List Row) × (listing (searchFor F plan permit) (suc most) ≡ going rows) → Ended (listing (searchFor F plan permit) (suc most))
       still r =
           let I = subst (Says F A plan permit L M (suc most)) (r .1) (listing-says F A plan permit L M (suc most)) in
           let a = rows-few (suc most) (r .0) I in
-          let b = going-long (engine F plan permit) (suc most) (r .0) (r .1) in
+          let b = going-long (searchFor F plan permit) (suc most) (r .0) (r .1) in
           absurd (omega arith)
 
 pub listing-ends : (F : Follow) → AfterLaws F → (plan permit : Proc) → Limits plan → Limits permit
-    → (s : Stage) × Ended s × Ends (engine F plan permit) s
+    → (s : Stage) × Ended s × Ends (searchFor F plan permit) s
 listing-ends F A plan permit L M =
-    (listing (engine F plan permit) (suc (most F A plan permit L M)), ends F A plan permit L M, (suc (most F A plan permit L M), refl))
+    (listing (searchFor F plan permit) (suc (most F A plan permit L M)), ends F A plan permit L M, (suc (most F A plan permit L M), refl))

@@ -1,10 +1,10 @@
 -- The theorems of the search, from the laws of After alone.
-use mathlib.Core.Path.{_≡_, refl, sym, ap, subst, _∙_}
-use mathlib.Core.List.{List, []}
-use mathlib.Core.Logic.{_↔_, _⊎_}
-use Prim.Native.Nat.{ℕ, _≤_, _<_, min}
+use mathlib.Core.Path.{_≡_, refl, sym, ap, subst}
+use mathlib.Core.List.{List}
+use mathlib.Core.Logic.{_↔_, _⊎_, inl, inr}
+use Prim.Native.Nat.{ℕ, _-_, _≤_, _<_, min}
 use native.Mathlib.Omega.{arith}
-use lib.ListN.{length, take, replicate, length-replicate}
+use lib.ListN.{length, replicate, length-replicate}
 use lib.Seq.{take-append-seam}
 use Rattle.std.specs.declared.result.Result.{Result}
 use Rattle.std.specs.declared.result.Result.the-variants.{Ok, Err}
@@ -16,13 +16,13 @@ use Rattle.gate.specs.Gate.{gate, accepted}
 use Rattle.gate.specs.Theorems.{Included}
 use Rattle.gate.proofs.Plain.{plain-laws}
 use Rattle.gate.proofs.Soundness.{rows-sound}
-use Rattle.search.specs.Engine.{Engine, Stage, going, endsWithin, endsBeyond, held, Ended}
-use Rattle.search.specs.Rule.{engine, searched}
-use Rattle.search.specs.Search.{Outcome, inside, beyond, fault, told, searchBy, answerOf, rowsAfter, motionsAfter}
-use Rattle.search.specs.Theorems.{Shortest, Ends, ShowsMore, Refusals, Tells, Certified, Refused, Decided, Exactly, SearchHolds, Laws-suffice}
+use Rattle.search.specs.Engine.{Engine, Stage, endsWithin, endsBeyond, held, Ended}
+use Rattle.search.specs.Rule.{searchFor, searched}
+use Rattle.search.specs.Search.{Outcome, told, searchBy, answerOf, rowsAfter, motionsAfter}
+use Rattle.search.specs.Theorems.{Shortest, Ends, ShowsMore, Refusals, Tells, Decided, Exactly, SearchHolds, Laws-suffice}
 use Rattle.search.specs.declared.answer.Answer.{Answer}
 use Rattle.search.specs.declared.answer.Answer.the-variants.{Within, Beyond}
-use Rattle.search.proofs.Limits.{Exact, told-full, told-shown, told-41, told-42, told-fault, shown-42, search-exact, read-off}
+use Rattle.search.proofs.Limits.{told-cases, read-off}
 use Rattle.search.proofs.Telling.{within-says, within-passes, beyond-says}
 use Rattle.search.proofs.Ending.{listing-ends}
 
@@ -32,86 +32,107 @@ ok-err a k e = let z : _≡_ {A = ℕ} 0 1 = cc in omega arith
 beyond-within : (m n : ℕ) → _≡_ {A = Result Answer ℕ} (Ok (Beyond m)) (Ok (Within n)) → ⊥
 beyond-within m n e = let z : _≡_ {A = ℕ} 0 1 = cc in omega arith
 
--- an answer that refuses is that refusal
-refused-so : (o : Outcome) (k : ℕ) → answerOf o ≡ Err k → o ≡ fault k
-refused-so (inside rows) k e = absurd (ok-err (Within (length rows)) k e)
-refused-so (beyond w) k e = absurd (ok-err (Beyond (length w)) k e)
-refused-so (fault j) k e = ap fault (same-number j k e)
-  where
-    same-number : (j k : ℕ) → _≡_ {A = Result Answer ℕ} (Err j) (Err k) → j ≡ k
-    same-number j k e = cc
+same-number : (j k : ℕ) → _≡_ {A = Result Answer ℕ} (Err j) (Err k) → j ≡ k
+same-number j k e = cc
 
--- refusals read off the end of the listing
+-- THE REFUSALS, read off the end of the listing
 
-not-going : (s : Stage) → Ended s → (rows : List Row) → s ≡ going rows → ⊥
-not-going s h rows e = subst Ended e h
+module _ (E : Engine) (n m : ℕ) (s : Stage) (h : Ended s) (e : Ends E s) where
+  abbrev N : ℕ
+  N = min n 1024
 
-more-shown : (motions : ℕ) (s : Stage) (rows : List Row) (w : List ℕ) → s ≡ endsBeyond rows w → motions < length w → ShowsMore motions s
-more-shown motions s rows w e l = subst (ShowsMore motions) (sym e) l
+  read : answerOf (searchBy E n m) ≡ answerOf (told N m s)
+  read = ap answerOf (read-off E s h e .1 n m)
 
-shown-more : (N motions : ℕ) (s : Stage) → length (held s) ≤ N → ShowsMore motions s → told N motions s ≡ fault 42
-shown-more N motions (going rows) l h = absurd h
-shown-more N motions (endsWithin rows) l h = absurd h
-shown-more N motions (endsBeyond rows w) l h = told-shown N motions rows w l ∙ shown-42 motions w h
+  too-many : (answerOf (told N m s) ≡ Err 41) ↔ (N < length (held s))
+  too-many =
+      told-cases N m s h (λ o. (answerOf o ≡ Err 41) ↔ (N < length (held s)))
+      (λ l. (λ x. l, λ y. refl))
+      (λ rows q l. (λ x. absurd (ok-err (Within (length rows)) 41 x), λ y. let z = ap (λ (t : Stage). length (held t)) q in absurd (omega arith)))
+      (λ rows w q l u. (λ x. let z = same-number 42 41 x in absurd (omega arith), λ y. let z = ap (λ (t : Stage). length (held t)) q in absurd (omega arith)))
+      (λ rows w q l u. (λ x. absurd (ok-err (Beyond (length w)) 41 x), λ y. let z = ap (λ (t : Stage). length (held t)) q in absurd (omega arith)))
 
-refusals-at : (E : Engine) (n m : ℕ) (s : Stage) → Ended s → Ends E s → Refusals E n m (answerOf (searchBy E n m))
-refusals-at E n m s h e =
-    record {
-      end = s;
-      ended = h;
-      ends = e;
-      only-end = read-off E s h e .0;
-      too-many = (
-        λ x. told-41 N m s (λ rows g. absurd (not-going s h rows g)) (sym read ∙ refused-so (searchBy E n m) 41 x),
-        λ l. ap answerOf (read ∙ told-full N m s l),
-      );
-      too-long = (
-        λ x. let r = told-42 N m s (sym read ∙ refused-so (searchBy E n m) 42 x) in
-            (subst (λ (y : Stage). length (held y) ≤ N) (sym (r .2)) (r .3), more-shown m s (r .0) (r .1) (r .2) (r .4)),
-        λ p. ap answerOf (read ∙ shown-more N m s (p .0) (p .1)),
-      );
-      no-other = λ k x. told-fault N m s k (sym read ∙ refused-so (searchBy E n m) k x);
-    }
-  where
-    N : ℕ
-    N = min n 1024
+  too-long : (answerOf (told N m s) ≡ Err 42) ↔ ((length (held s) ≤ N) × ShowsMore m s)
+  too-long =
+      told-cases N m s h (λ o. (answerOf o ≡ Err 42) ↔ ((length (held s) ≤ N) × ShowsMore m s))
+      (λ l. (λ x. let z = same-number 41 42 x in absurd (omega arith), λ y. let z = y .0 in absurd (omega arith)))
+      (λ rows q l. (λ x. absurd (ok-err (Within (length rows)) 42 x), λ y. absurd (subst (ShowsMore m) q (y .1))))
+      (λ rows w q l u. (λ x. (subst (λ (t : Stage). length (held t) ≤ N) (sym q) l, subst (ShowsMore m) (sym q) u), λ y. refl))
+      (λ rows w q l u. (λ x. absurd (ok-err (Beyond (length w)) 42 x), λ y. let z : m < length w = subst (ShowsMore m) q (y .1) in absurd (omega arith)))
 
-    read : searchBy E n m ≡ told N m s
-    read = read-off E s h e .1 n m
+  no-other : (k : ℕ) → answerOf (told N m s) ≡ Err k → (k ≡ 41) ⊎ (k ≡ 42)
+  no-other k =
+      told-cases N m s h (λ o. answerOf o ≡ Err k → (k ≡ 41) ⊎ (k ≡ 42))
+      (λ l x. inl (sym (same-number 41 k x)))
+      (λ rows q l x. absurd (ok-err (Within (length rows)) k x))
+      (λ rows w q l u x. inr (sym (same-number 42 k x)))
+      (λ rows w q l u x. absurd (ok-err (Beyond (length w)) k x))
+
+  refusals-at : Refusals E n m (answerOf (searchBy E n m))
+  refusals-at =
+      subst (Refusals E n m) (sym read)
+      (record {
+        end = s;
+        ended = h;
+        ends = e;
+        only-end = read-off E s h e .0;
+        read-off = refl;
+        too-many = too-many;
+        too-long = too-long;
+        no-other = no-other;
+      })
+
+-- WHAT AN OUTCOME SAYS, by the end that it is read off
 
 module _ (F : Follow) (A : AfterLaws F) (plan permit : Proc) (L : Limits plan) (M : Limits permit) where
-  refusals : (n m : ℕ) → Refusals (engine F plan permit) n m (answerOf (searched F plan permit n m))
-  refusals n m = let s = listing-ends F A plan permit L M in refusals-at (engine F plan permit) n m (s .0) (s .1) (s .2)
+  -- an end of the listing
+  abbrev Ending : Type 0
+  Ending = (s : Stage) × Ended s × Ends (searchFor F plan permit) s
 
-  -- what the lists hold is what the outcome says
-  tells-so : (n m : ℕ) (o : Outcome) → Exact (engine F plan permit) n m o → Tells F plan permit (answerOf o) (rowsAfter o n) (motionsAfter o m)
-  tells-so n m (inside rows) X =
-      let e = X .ends-within rows .0 refl in
-      let l = e .1 in
-      subst (λ (xs : List Row). Ends (engine F plan permit) (endsWithin xs) × (gate F plan permit xs ≡ accepted) × Included plan permit)
-      (sym (take-append-seam rows _))
-      (e .0, within-passes F A plan permit L M rows (e .0) (omega arith), rows-sound F A plan permit L M rows (within-says F A plan permit L M rows (e .0)))
-  tells-so n m (beyond w) X =
-      let e = X .ends-beyond w .0 refl in
-      subst (Shortest plan permit) (sym (take-append-seam w _)) (beyond-says F A plan permit L M (e .0) w (e .1))
-  tells-so n m (fault k) X =
-      λ e. let x = X .too-long .0 (ap fault e) in
-          (x .1, beyond-says F A plan permit L M (x .0) (x .1) (x .2), subst (λ (j : ℕ). j < length (x .1)) (sym (length-replicate m 0)) (x .4))
+  the-end : Ending
+  the-end = listing-ends F A plan permit L M
 
-  decided-so : (n m : ℕ) (o : Outcome) → Exact (engine F plan permit) n m o → Decided plan permit (answerOf o)
-  decided-so n m (inside rows) X free = (λ c. tells-so n m (inside rows) X .2, λ i. (length rows, refl))
-  decided-so n m (beyond w) X free =
-      let e = X .ends-beyond w .0 refl in
-      let S = beyond-says F A plan permit L M (e .0) w (e .1) in
-      (λ c. absurd (beyond-within (length w) (c .0) (c .1)), λ i. absurd (S .not-permit (i w (S .of-plan))))
-  decided-so n m (fault k) X free = absurd (free (k, refl))
+  at-end : (s : Stage) (t : Stage) → s ≡ t → Ends (searchFor F plan permit) s → Ends (searchFor F plan permit) t
+  at-end s t q e = subst (Ends (searchFor F plan permit)) q e
+
+  shortest-at : (s : Stage) (rows : List Row) (w : List ℕ) → s ≡ endsBeyond rows w → Ends (searchFor F plan permit) s → Shortest plan permit w
+  shortest-at s rows w q e = beyond-says F A plan permit L M rows w (at-end s (endsBeyond rows w) q e)
+
+  included-at : (s : Stage) (rows : List Row) → s ≡ endsWithin rows → Ends (searchFor F plan permit) s → Included plan permit
+  included-at s rows q e = rows-sound F A plan permit L M rows (within-says F A plan permit L M rows (at-end s (endsWithin rows) q e))
+
+  tells-at : (n m : ℕ) (x : Ending) → (o : Outcome) → o ≡ told (min n 1024) m (x .0) → Tells F plan permit (answerOf o) (rowsAfter o n) (motionsAfter o m)
+  tells-at n m (s, h, e) o r =
+      subst (λ (y : Outcome). Tells F plan permit (answerOf y) (rowsAfter y n) (motionsAfter y m)) (sym r)
+      (told-cases (min n 1024) m s h (λ y. Tells F plan permit (answerOf y) (rowsAfter y n) (motionsAfter y m))
+      (λ l x. absurd (omega arith))
+      (λ rows q l.
+      subst (λ (xs : List Row). Ends (searchFor F plan permit) (endsWithin xs) × (gate F plan permit xs ≡ accepted) × Included plan permit)
+      (sym (take-append-seam rows (replicate (n - length rows) emptyRow)))
+      (at-end s (endsWithin rows) q e, within-passes F A plan permit L M rows (at-end s (endsWithin rows) q e) (omega arith), included-at s rows q e))
+      (λ rows w q l u x. (w, shortest-at s rows w q e, subst (λ (j : ℕ). j < length w) (sym (length-replicate m 0)) u))
+      (λ rows w q l u. subst (Shortest plan permit) (sym (take-append-seam w (replicate (m - length w) 0))) (shortest-at s rows w q e)))
+
+  decided-at : (n m : ℕ) (x : Ending) → (o : Outcome) → o ≡ told (min n 1024) m (x .0) → Decided plan permit (answerOf o)
+  decided-at n m (s, h, e) o r =
+      subst (λ (y : Outcome). Decided plan permit (answerOf y)) (sym r)
+      (told-cases (min n 1024) m s h (λ y. Decided plan permit (answerOf y))
+      (λ l free. absurd (free (41, refl)))
+      (λ rows q l free. (λ c. included-at s rows q e, λ i. (length rows, refl)))
+      (λ rows w q l u free. absurd (free (42, refl)))
+      (λ rows w q l u free.
+      let S = shortest-at s rows w q e in
+      (λ c. absurd (beyond-within (length w) (c .0) (c .1)), λ i. absurd (S .not-permit (i w (S .of-plan))))))
+
+  told-of : (n m : ℕ) → searched F plan permit n m ≡ told (min n 1024) m (the-end .0)
+  told-of n m = read-off (searchFor F plan permit) (the-end .0) (the-end .1) (the-end .2) .1 n m
 
 pub laws-suffice : Laws-suffice
 laws-suffice F A =
     record {
-      refusals = refusals F A;
-      tells = λ plan permit L M n m. tells-so F A plan permit L M n m (searched F plan permit n m) (search-exact (engine F plan permit) n m);
-      decided = λ plan permit L M n m. decided-so F A plan permit L M n m (searched F plan permit n m) (search-exact (engine F plan permit) n m);
+      refusals = λ plan permit L M n m. let x = the-end F A plan permit L M in refusals-at (searchFor F plan permit) n m (x .0) (x .1) (x .2);
+      tells = λ plan permit L M n m. tells-at F A plan permit L M n m (the-end F A plan permit L M) (searched F plan permit n m) (told-of F A plan permit L M n m);
+      decided = λ plan permit L M n m. decided-at F A plan permit L M n m (the-end F A plan permit L M) (searched F plan permit n m) (told-of F A plan permit L M n m);
     }
 
 pub plain-holds : SearchHolds plain
@@ -121,15 +142,15 @@ plain-holds = laws-suffice plain plain-laws
 pub exactly-tells : (plan permit : Proc) → Limits plan → Limits permit → (n m : ℕ) (answer : Result Answer ℕ) (rows : List Row) (motions : List ℕ)
     → Exactly plain plan permit n m answer rows motions
     → record {
-        exact : Exactly plain plan permit n m answer rows motions;
-        refusals : Refusals (engine plain plan permit) n m answer;
-        decided : Decided plan permit answer;
-        tells : Tells plain plan permit answer rows motions;
-      }
+      exact : Exactly plain plan permit n m answer rows motions;
+      refusals : Refusals (searchFor plain plan permit) n m answer;
+      decided : Decided plan permit answer;
+      tells : Tells plain plan permit answer rows motions;
+    }
 exactly-tells plan permit L M n m answer rows motions X =
     record {
       exact = X;
-      refusals = subst (Refusals (engine plain plan permit) n m) (sym (X .answer-is)) (plain-holds .refusals plan permit L M n m);
+      refusals = subst (Refusals (searchFor plain plan permit) n m) (sym (X .answer-is)) (plain-holds .refusals plan permit L M n m);
       decided = subst (Decided plan permit) (sym (X .answer-is)) (plain-holds .decided plan permit L M n m);
       tells =
           subst (λ (a : Result Answer ℕ). Tells plain plan permit a rows motions) (sym (X .answer-is))

@@ -1,6 +1,6 @@
 -- What the listing keeps while it is worked: from the laws of After alone.
 use mathlib.Core.Path.{_≡_, refl, sym, ap, subst, _∙_}
-use mathlib.Core.Bool.{Bool, true, false, cond}
+use mathlib.Core.Bool.{Bool, true}
 use mathlib.Core.List.{List, [], _∷_, _++_}
 use mathlib.Core.Logic.{inl, inr, ⊎-elim}
 use Prim.Native.Nat.{ℕ, zero, suc, _+_, _≤_, _<_}
@@ -22,10 +22,10 @@ use Rattle.certificate.specs.declared.Row.{Row}
 use Rattle.reach.proofs.Rounds.{none-some}
 use Rattle.gate.specs.Follow.{Follow}
 use Rattle.gate.proofs.Scans.{pick-place}
-use Rattle.gate.proofs.Soundness.{above}
+use Rattle.gate.proofs.Deciding.{above}
 use Rattle.search.specs.Engine.{Ask, idle, lacking, append, Work, listed, lost, workMoves}
-use Rattle.search.specs.Rule.{row0, rowFrom, same, unlessListed, asks, leadsTo, engine}
-use Rattle.search.proofs.Ways.{At, at-append, at-split, at-below, at-end, getD-at, Way, root, branch, way-at, way-append, way-back, way-last}
+use Rattle.search.specs.Rule.{row0, rowFrom, same, unlessListed, asks, leadsTo, searchFor}
+use Rattle.search.proofs.Ways.{At, at-append, at-split, at-below, at-end, getD-at, Way, branch, way-at, way-append, way-back, way-last}
 
 some-same : (j k : ℕ) → Some j ≡ Some k → j ≡ k
 some-same j k e = cc
@@ -181,21 +181,21 @@ pick-ask idle y z f P Q p a b c = a p
 pick-ask lacking y z f P Q p a b c = b p
 pick-ask (append r) y z f P Q p a b c = c r p
 
-asked : (F : Follow) (permit : Proc) (i : ℕ) (q : Row) (rows : List Row) (m : Move) → Asked F permit i q rows m (asks (leadsTo F permit) i q rows m)
-asked F permit i q rows m =
+ask-means : (F : Follow) (permit : Proc) (i : ℕ) (q : Row) (rows : List Row) (m : Move) → Asked F permit i q rows m (asks (leadsTo F permit) i q rows m)
+ask-means F permit i q rows m =
     pick (eqb (m .motion) 0) _ _ (Asked F permit i q rows m)
     (λ e l. let z = eqb-true (m .motion) 0 e in absurd (omega arith))
     (λ e. pick (eqb S 0) None (Some S) (λ o. Asked F permit i q rows m (elim o [ None ↦ lacking | Some A ↦ unlessListed rows (rowFrom i m A) ]))
     (λ z. (above (m .motion) e, eqb-true S 0 z))
     (λ z. pick-place (first (same (m .target) S) rows) (λ k. idle) (append (rowFrom i m S)) (Asked F permit i q rows m)
-    (λ k f l. found k f)
+    (λ k f l. there k f)
     (λ f. (above (m .motion) e, refl, above S z, f))))
   where
     S : ℕ
     S = F .after permit (q .set .bits) (m .motion)
 
-    found : (k : ℕ) → first (same (m .target) S) rows ≡ Some k → Found F permit rows q (m .motion) (m .target)
-    found k f =
+    there : (k : ℕ) → first (same (m .target) S) rows ≡ Some k → Found F permit rows q (m .motion) (m .target)
+    there k f =
         let r = first-at (same (m .target) S) rows k f in
         let b = and-parts (eqb (r .0 .state) (m .target)) (eqb (r .0 .set .bits) S) (r .2) in
         (k, r .0, r .1, eqb-true (r .0 .state) (m .target) (b .0), eqb-true (r .0 .set .bits) S (b .1))
@@ -232,12 +232,12 @@ post-more F plan permit i q m ms rows rows′ (lost a rows″) f g p = p
 
 pub work-moves : (F : Follow) (plan permit : Proc) (i : ℕ) (q : Row)
     → (ms : List Move) → ((a u : ℕ) → HasMove ms a u → (v : ℕ) × Run plan (q .state) [] v × Steps plan v a u)
-    → (rows : List Row) → Inv F plan permit i rows → At rows i q → Post F plan permit i q ms rows (workMoves (engine F plan permit) i q ms rows)
+    → (rows : List Row) → Inv F plan permit i rows → At rows i q → Post F plan permit i q ms rows (workMoves (searchFor F plan permit) i q ms rows)
 work-moves F plan permit i q [] sub rows I at = (I, λ k r h. h, λ a u l h. absurd h)
 work-moves F plan permit i q (m ∷ ms) sub rows I at =
-    pick-ask (asks (leadsTo F permit) i q rows m) (workMoves (engine F plan permit) i q ms rows) (lost (m .motion) rows) (λ r. workMoves (engine F plan permit) i q ms (rows ++ r ∷ []))
-    (Asked F permit i q rows m) (Post F plan permit i q (m ∷ ms) rows) (asked F permit i q rows m)
-    (λ p. post-more F plan permit i q m ms rows rows (workMoves (engine F plan permit) i q ms rows) (λ k r h. h) p
+    pick-ask (asks (leadsTo F permit) i q rows m) (workMoves (searchFor F plan permit) i q ms rows) (lost (m .motion) rows) (λ r. workMoves (searchFor F plan permit) i q ms (rows ++ r ∷ []))
+    (Asked F permit i q rows m) (Post F plan permit i q (m ∷ ms) rows) (ask-means F permit i q rows m)
+    (λ p. post-more F plan permit i q m ms rows rows (workMoves (searchFor F plan permit) i q ms rows) (λ k r h. h) p
     (work-moves F plan permit i q ms (λ a u h. sub a u (inr h)) rows I at))
     (λ p. let s = sub (m .motion) (m .target) (inl (refl, refl)) in (s .0, m .target, s .1, p .0, s .2, p .1))
     (λ r p.
@@ -245,7 +245,7 @@ work-moves F plan permit i q (m ∷ ms) sub rows I at =
     let J : Inv F plan permit i (rows ++ r ∷ []) =
     subst (λ (x : Row). Inv F plan permit i (rows ++ x ∷ [])) (sym (p .1))
     (extend F plan permit i rows q I at (s .0) (m .motion) (m .target) (s .1) (p .0) (s .2) (p .2) (p .3)) in
-    post-more F plan permit i q m ms rows (rows ++ r ∷ []) (workMoves (engine F plan permit) i q ms (rows ++ r ∷ [])) (λ k x h. at-append rows r k x h)
+    post-more F plan permit i q m ms rows (rows ++ r ∷ []) (workMoves (searchFor F plan permit) i q ms (rows ++ r ∷ [])) (λ k x h. at-append rows r k x h)
     (λ l. (length rows, r, at-end rows r, ap (λ (x : Row). x .state) (p .1), ap (λ (x : Row). x .set .bits) (p .1)))
     (work-moves F plan permit i q ms (λ a u h. sub a u (inr h)) (rows ++ r ∷ []) J (at-append rows r i q at)))
 

@@ -1,9 +1,9 @@
 -- Rows in the caller's list: the one that is looked for, and one row more.
 use mathlib.Core.Path.{_≡_, refl, sym, ap, subst, _∙_}
-use mathlib.Core.Bool.{Bool, true, false, _&&_}
+use mathlib.Core.Bool.{true, false}
 use mathlib.Core.List.{List, [], _∷_, _++_}
 use mathlib.Core.Logic.{_⊎_, inl, inr, _≢_}
-use Prim.Native.Nat.{ℕ, suc, _+_, _-_, _≤_, _<_, min}
+use Prim.Native.Nat.{ℕ, _+_, _-_, _≤_, _<_, min}
 use native.Mathlib.Numerals.{add-one}
 use native.Mathlib.Omega.{arith}
 use lib.Dec.{eqb, ltb}
@@ -21,7 +21,7 @@ use Rattle.certificate.specs.Rows.{emptyRow, keyOf}
 use Rattle.certificate.specs.declared.Row.{Row}
 use Rattle.search.specs.Engine.{Ask, idle, append}
 use Rattle.search.specs.Rule.{same, unlessListed}
-use Rattle.search.specs.Search.{Trial, kept, full, tryAsk}
+use Rattle.search.specs.Search.{kept, full, tryAsk}
 use Rattle.search.specs.Answers.{Earlier, Listed-so}
 
 -- the test of a row decides whether it has that state and that set

@@ -1,6 +1,5 @@
 -- What the ends of the listing say of the plan and the permit: from the laws of After alone.
 use mathlib.Core.Path.{_≡_, refl, sym, ap, subst, _∙_}
-use mathlib.Core.Bool.{true, false}
 use mathlib.Core.List.{List, [], _∷_, _++_}
 use mathlib.Core.Logic.{⊎-elim}
 use Prim.Native.Nat.{ℕ, zero, suc, _+_, _≤_, _<_}
@@ -23,7 +22,7 @@ use Rattle.gate.specs.Follow.{Follow, AfterLaws}
 use Rattle.gate.specs.Gate.{gate, accepted, Justifies}
 use Rattle.gate.proofs.Soundness.{gate-exact}
 use Rattle.search.specs.Engine.{trail, Work, listed, lost, workRow, Stage, going, endsWithin, endsBeyond, worked, next, listing}
-use Rattle.search.specs.Rule.{row0, engine}
+use Rattle.search.specs.Rule.{row0, searchFor}
 use Rattle.search.specs.Theorems.{Shortest, Ends}
 use Rattle.search.proofs.Ways.{At, at-below, at-getD, at-member, member-at, Way, root, branch, way-at, way-run, after-push, way-set, run-after, way-trail}
 use Rattle.search.proofs.Keeping.{Next, Inv, Post, work-moves, advance}
@@ -111,10 +110,10 @@ module _ (F : Follow) (A : AfterLaws F) (plan permit : Proc) (L : Limits plan) (
           (o .0, z .1, o .1, run-append {s = o .0} {v = z .0} (o .2) (z .3))
 
   -- a motion lacking at row i: a shortest trace that the permit has not
-  shortest : (i : ℕ) (rows : List Row) → Inv F plan permit i rows → (q : Row) → At rows i q
+  lacked : (i : ℕ) (rows : List Row) → Inv F plan permit i rows → (q : Row) → At rows i q
       → (v a u : ℕ) → Run plan (q .state) [] v → 1 ≤ a → Steps plan v a u → F .after permit (q .set .bits) a ≡ 0
       → Shortest plan permit (trail i rows i (a ∷ []))
-  shortest i rows I q at v a u run loud step gone =
+  lacked i rows I q at v a u run loud step gone =
       subst (Shortest plan permit) (sym (way-trail W i (le-refl i) (a ∷ [])))
       (record { of-plan = does; not-permit = fails; least = λ x T n. ⊎-elim (λ l. absurd (n (shorter x l T))) (λ l. l) (cases-lt (length x) (length (w ++ a ∷ []))) })
     where
@@ -149,31 +148,31 @@ module _ (F : Follow) (A : AfterLaws F) (plan permit : Proc) (L : Limits plan) (
   work-says i rows q I at (listed rows′) p =
       advance F plan permit i rows′ q (p .0) (p .1 i q at)
       (λ v a u run l h. p .2 a u l (offers-exact plan L (q .state) a u .1 (v, run, h)))
-  work-says i rows q I at (lost a rows′) p = shortest i rows I q at (p .0) a (p .1) (p .2) (p .3) (p .4) (p .5)
+  work-says i rows q I at (lost a rows′) p = lacked i rows I q at (p .0) a (p .1) (p .2) (p .3) (p .4) (p .5)
 
-  next-says : (i : ℕ) (s : Stage) → Says i s → Says (suc i) (next (engine F plan permit) i s)
+  next-says : (i : ℕ) (s : Stage) → Says i s → Says (suc i) (next (searchFor F plan permit) i s)
   next-says i (going rows) I =
       pick (ltb i (length rows)) _ _ (Says (suc i))
       (λ t.
       let q = getD rows i emptyRow in
       let at = at-getD rows i emptyRow (ltb-true i (length rows) t) in
-      work-says i rows q I at (workRow (engine F plan permit) i q rows)
+      work-says i rows q I at (workRow (searchFor F plan permit) i q rows)
       (work-moves F plan permit i q (offers plan (q .state)) (λ a u h. offers-exact plan L (q .state) a u .0 h) rows I at))
       (λ t. (finished i rows I (ltb-false i (length rows) t), (i, I)))
   next-says i (endsWithin rows) J = J
   next-says i (endsBeyond rows w) S = S
 
-  pub listing-says : (d : ℕ) → Says d (listing (engine F plan permit) d)
+  pub listing-says : (d : ℕ) → Says d (listing (searchFor F plan permit) d)
   listing-says zero = begun
-  listing-says (suc d) = next-says d (listing (engine F plan permit) d) (listing-says d)
+  listing-says (suc d) = next-says d (listing (searchFor F plan permit) d) (listing-says d)
 
-  pub within-says : (rows : List Row) → Ends (engine F plan permit) (endsWithin rows) → Justifies F plan permit rows
+  pub within-says : (rows : List Row) → Ends (searchFor F plan permit) (endsWithin rows) → Justifies F plan permit rows
   within-says rows e = subst (Says (e .0)) (e .1) (listing-says (e .0)) .0
 
-  pub beyond-says : (rows : List Row) (w : List ℕ) → Ends (engine F plan permit) (endsBeyond rows w) → Shortest plan permit w
+  pub beyond-says : (rows : List Row) (w : List ℕ) → Ends (searchFor F plan permit) (endsBeyond rows w) → Shortest plan permit w
   beyond-says rows w e = subst (Says (e .0)) (e .1) (listing-says (e .0))
 
-  pub within-passes : (rows : List Row) → Ends (engine F plan permit) (endsWithin rows) → length rows ≤ 1024 → gate F plan permit rows ≡ accepted
+  pub within-passes : (rows : List Row) → Ends (searchFor F plan permit) (endsWithin rows) → length rows ≤ 1024 → gate F plan permit rows ≡ accepted
   within-passes rows e l =
       let J = within-says rows e in
       let s = J .start-row in

@@ -1,21 +1,20 @@
 -- The motions along back, counted and written.
 use mathlib.Core.Path.{_≡_, refl, sym, ap, subst, _∙_}
-use mathlib.Core.Bool.{Bool, true, false}
+use mathlib.Core.Bool.{true, false}
 use mathlib.Core.List.{List, [], _∷_}
-use mathlib.Core.Logic.{_⊎_, inl, inr, ⊎-elim}
+use mathlib.Core.Logic.{_⊎_, ⊎-elim}
 use Prim.Native.Nat.{ℕ, zero, suc, _+_, _-_, _≤_, _<_}
-use native.Mathlib.Numerals.{add-one}
 use native.Mathlib.Omega.{arith}
 use lib.Dec.{eqb, ltb}
 use lib.ListN.{length, getD, set, take, drop}
 use lib.Seq.{take-set-lt, length-take-le, getD-take}
 use Rattle.std.proofs.shelf.Lists.{drop-set, drop-all}
-use Rattle.std.proofs.shelf.Tests.{cases-bool, both-ways, eqb-true, ne-eqb, ltb-true, ltb-false}
+use Rattle.std.proofs.shelf.Tests.{cases-bool, both-ways, ne-eqb, ltb-true, ltb-false}
 use Rattle.process.proofs.Bits.{pick}
 use Rattle.certificate.specs.Rows.{emptyRow}
 use Rattle.certificate.specs.declared.Row.{Row}
 use Rattle.search.specs.Engine.{trail}
-use Rattle.search.specs.Search.{Outcome, beyond, fault, shown}
+use Rattle.search.specs.Search.{beyond, fault, shown}
 use Rattle.search.specs.Answers.{Earlier, deep}
 
 pub deep-first : (d : ℕ) (rows : List Row) → deep d rows 0 ≡ 0

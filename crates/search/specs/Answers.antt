@@ -14,7 +14,7 @@ use Rattle.certificate.specs.declared.Row.{Row}
 use Rattle.search.specs.Engine.{trail}
 use Rattle.search.specs.Search.{Outcome, inside, beyond, fault, Trial, kept, stopped, full, shown}
 use Rattle.search.specs.declared.answer.Answer.{Answer}
-use Rattle.search.specs.declared.answer.Answer.the-variants.{Within, Beyond}
+use Rattle.search.specs.declared.answer.Answer.the-variants as answers
 use Rattle.search.specs.declared.answer.SearchFault.{SearchFault}
 use Rattle.search.specs.declared.answer.SearchFault.the-variants.{RowsFull, MotionsShort}
 use Rattle.search.specs.declared.listing.Work.{Work}
@@ -44,16 +44,18 @@ abbrev pub appendedOf : Option ℕ → List Row → Trial
 appendedOf (Some n) rows = kept (take n rows)
 appendedOf None rows = full
 
+-- and what they keep
 abbrev pub Appends : ℕ → List Row → Option ℕ → List Row → Type 0
 Appends before old (Some n) rows = Listed-so before old rows n
 Appends before old None rows = Unit {0}
 
--- the work on a move or a row
+-- what the work on a move or a row came to
 abbrev pub workOf : Work → List Row → Trial
 workOf (works.Listed n) rows = kept (take n rows)
 workOf (works.Lacking a) rows = stopped a
 workOf works.Full rows = full
 
+-- and what it keeps: the rows listed before, at the least
 abbrev pub Works : ℕ → List Row → Work → List Row → Type 0
 Works before old (works.Listed n) rows = Listed-so before old rows n
 Works before old (works.Lacking a) rows = (before ≤ length rows) × Earlier before rows × (take before rows ≡ take before old)
@@ -65,6 +67,7 @@ endOf motions (ends.Within n) rows = inside (take n rows)
 endOf motions (ends.Beyond i a) rows = shown motions (trail i rows i (a ∷ []))
 endOf motions ends.Full rows = fault 41
 
+-- and what it keeps: its count, or the row that lacks a motion, lies within the list
 abbrev pub Ends-so : declared.Listing → List Row → Type 0
 Ends-so (ends.Within n) rows = n ≤ length rows
 Ends-so (ends.Beyond i a) rows = (i < length rows) × Earlier (suc i) rows
@@ -80,18 +83,19 @@ abbrev pub shownOf : Option ℕ → List ℕ → Outcome
 shownOf (Some n) motions = beyond (take n motions)
 shownOf None motions = fault 42
 
+-- their count lies within the list
 abbrev pub ShownFit : Option ℕ → ℕ → Type 0
 ShownFit (Some n) motions = n ≤ motions
 ShownFit None motions = Unit {0}
 
 -- what the search came to, by its answer and the lists then
 abbrev pub outcomeOf : Result Answer SearchFault → List Row → List ℕ → Outcome
-outcomeOf (Ok (Within n)) rows motions = inside (take n rows)
-outcomeOf (Ok (Beyond n)) rows motions = beyond (take n motions)
+outcomeOf (Ok (answers.Within n)) rows motions = inside (take n rows)
+outcomeOf (Ok (answers.Beyond n)) rows motions = beyond (take n motions)
 outcomeOf (Err e) rows motions = fault (searchNumber e)
 
 -- the count of an answer lies within the list that it counts; n rows and m motions are the lists' lengths
 abbrev pub Counted : Result Answer SearchFault → ℕ → ℕ → Type 0
-Counted (Ok (Within k)) n m = k ≤ n
-Counted (Ok (Beyond k)) n m = k ≤ m
+Counted (Ok (answers.Within k)) n m = k ≤ n
+Counted (Ok (answers.Beyond k)) n m = k ≤ m
 Counted (Err e) n m = Unit {0}

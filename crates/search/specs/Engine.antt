@@ -29,11 +29,12 @@ trail (suc d) rows i w =
       | false ↦ let r = getD rows i emptyRow in trail d rows (r .back) (r .by ∷ w)
     ]
 
--- the moves of one row: the rows then listed, or the motion lacking and the rows listed before it
+-- what work comes to: the rows then listed, or the motion lacking and the rows listed before it
 pub data Work : Type 0 where
   listed : List Row → Work
   lost : ℕ → List Row → Work
 
+-- the moves of row i, q, one after the other
 abbrev pub workMoves : Engine → ℕ → Row → List Move → List Row → Work
 workMoves E i q [] rows = listed rows
 workMoves E i q (m ∷ ms) rows =
@@ -43,6 +44,7 @@ workMoves E i q (m ∷ ms) rows =
       | append r ↦ workMoves E i q ms (rows ++ r ∷ [])
     ]
 
+-- all moves of a row
 abbrev pub workRow : Engine → ℕ → Row → List Row → Work
 workRow E i q rows = workMoves E i q (E .moves q) rows
 
@@ -52,6 +54,7 @@ pub data Stage : Type 0 where
   endsWithin : List Row → Stage
   endsBeyond : List Row → List ℕ → Stage
 
+-- the rows that it holds
 abbrev pub held : Stage → List Row
 held (going rows) = rows
 held (endsWithin rows) = rows

@@ -3,3 +3,4 @@ pub mod Search
 pub mod Rule
 pub mod Answers
 pub mod Theorems
+pub mod Still

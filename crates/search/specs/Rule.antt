@@ -54,9 +54,9 @@ abbrev pub leadsTo : Follow → Proc → ℕ → Move → Option ℕ
 leadsTo F permit T m = someOf (F .after permit T (m .motion))
 
 -- the search for a trace of the plan that the permit lacks
-abbrev pub engine : Follow → Proc → Proc → Engine
-engine F plan permit = ruled plan (F .start permit) (leadsTo F permit)
+abbrev pub searchFor : Follow → Proc → Proc → Engine
+searchFor F plan permit = ruled plan (F .start permit) (leadsTo F permit)
 
 -- with lists for so many rows and motions
 abbrev pub searched : Follow → Proc → Proc → ℕ → ℕ → Outcome
-searched F plan permit rows motions = searchBy (engine F plan permit) rows motions
+searched F plan permit rows motions = searchBy (searchFor F plan permit) rows motions

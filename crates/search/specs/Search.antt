@@ -11,7 +11,7 @@ use Rattle.certificate.specs.Rows.{emptyRow}
 use Rattle.certificate.specs.declared.Row.{Row}
 use Rattle.search.specs.Engine.{Ask, Engine, idle, lacking, append, trail, Stage, going, endsWithin, endsBeyond}
 use Rattle.search.specs.declared.answer.Answer.{Answer}
-use Rattle.search.specs.declared.answer.Answer.the-variants.{Within, Beyond}
+use Rattle.search.specs.declared.answer.Answer.the-variants as answers
 
 -- what a search comes to: the rows listed, the motions shown, or a refusal by its number
 pub data Outcome : Type 0 where
@@ -42,6 +42,7 @@ abbrev pub tryMoves : Engine → ℕ → ℕ → Row → List Move → List Row 
 tryMoves E most i q [] rows = kept rows
 tryMoves E most i q (m ∷ ms) rows = andThen (tryAsk most (m .motion) rows (E .asks i q rows m)) (λ more. tryMoves E most i q ms more)
 
+-- all moves of a row
 abbrev pub tryRow : Engine → ℕ → ℕ → Row → List Row → Trial
 tryRow E most i q rows = tryMoves E most i q (E .moves q) rows
 
@@ -78,8 +79,8 @@ told room motions (endsBeyond rows w) = elim (ltb room (length rows)) [ true ↦
 
 -- the answer, with its count; a refusal by its number
 abbrev pub answerOf : Outcome → Result Answer ℕ
-answerOf (inside rows) = Ok (Within (length rows))
-answerOf (beyond w) = Ok (Beyond (length w))
+answerOf (inside rows) = Ok (answers.Within (length rows))
+answerOf (beyond w) = Ok (answers.Beyond (length w))
 answerOf (fault k) = Err k
 
 -- the caller's rows then, n of them: the rows listed, and empty ones

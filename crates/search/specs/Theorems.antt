@@ -13,8 +13,8 @@ use Rattle.gate.specs.Follow.{Follow, AfterLaws}
 use Rattle.gate.specs.Gate.{gate, accepted}
 use Rattle.gate.specs.Theorems.{Included}
 use Rattle.search.specs.Engine.{Engine, Stage, going, endsWithin, endsBeyond, held, Ended, listing}
-use Rattle.search.specs.Rule.{engine, searched}
-use Rattle.search.specs.Search.{answerOf, rowsAfter, motionsAfter}
+use Rattle.search.specs.Rule.{searchFor, searched}
+use Rattle.search.specs.Search.{told, answerOf, rowsAfter, motionsAfter}
 use Rattle.search.specs.declared.answer.Answer.{Answer}
 use Rattle.search.specs.declared.answer.Answer.the-variants.{Within, Beyond}
 
@@ -47,6 +47,8 @@ pub record Refusals (E : Engine) (rows motions : ℕ) (answer : Result Answer �
   pub ended : Ended end
   pub ends : Ends E end
   pub only-end : (s : Stage) → Ended s → Ends E s → s ≡ end
+  -- the answer is read off it
+  pub read-off : answer ≡ answerOf (told (min rows 1024) motions end)
   -- 41 just when it then holds more rows than the list does, or than 1,024
   pub too-many : (answer ≡ Err 41) ↔ (min rows 1024 < length (held end))
   -- otherwise 42 just when it ended beyond, with more motions than the list holds
@@ -58,7 +60,7 @@ pub record Refusals (E : Engine) (rows motions : ℕ) (answer : Result Answer �
 abbrev pub Tells : Follow → Proc → Proc → Result Answer ℕ → List Row → List ℕ → Type 0
 -- the rows counted are the whole listing, the gate accepts them, and every trace of the plan is one of the permit
 Tells F plan permit (Ok (Within n)) rows motions =
-    Ends (engine F plan permit) (endsWithin (take n rows)) × (gate F plan permit (take n rows) ≡ accepted) × Included plan permit
+    Ends (searchFor F plan permit) (endsWithin (take n rows)) × (gate F plan permit (take n rows) ≡ accepted) × Included plan permit
 -- the motions counted are a shortest trace of the plan that the permit lacks
 Tells F plan permit (Ok (Beyond n)) rows motions = Shortest plan permit (take n motions)
 -- 42: there is such a trace, and it is longer than the list
@@ -80,7 +82,7 @@ Decided plan permit answer = (Refused answer → ⊥) → Certified answer ↔ I
 pub record SearchHolds (F : Follow) : Type 0 where
   pub refusals :
       (plan permit : Proc) → Limits plan → Limits permit → (n m : ℕ)
-      → Refusals (engine F plan permit) n m (answerOf (searched F plan permit n m))
+      → Refusals (searchFor F plan permit) n m (answerOf (searched F plan permit n m))
   pub tells :
       (plan permit : Proc) → Limits plan → Limits permit → (n m : ℕ)
       → Tells F plan permit (answerOf (searched F plan permit n m)) (rowsAfter (searched F plan permit n m) n) (motionsAfter (searched F plan permit n m) m)

@@ -1,5 +1,4 @@
 // What the search answers.
-ghost use mathlib.Core.Path.{_≡_};
 ghost use Rattle.search.specs.Answers.{searchNumber};
 use common::Numbered;
 

@@ -5,7 +5,7 @@ ghost use lib.ListN.{length, take};
 ghost use Rattle.common.specs.Faults.{numbered};
 ghost use Rattle.gate.specs.Follow.{plain};
 ghost use Rattle.search.specs.Answers.{searchNumber, outcomeOf, Counted};
-ghost use Rattle.search.specs.Rule.{ruled, engine};
+ghost use Rattle.search.specs.Rule.{ruled, searchFor};
 ghost use Rattle.search.specs.Search.{inside, beyond, searchBy, rowsAfter, motionsAfter};
 ghost use Rattle.search.specs.Theorems.{Exactly, Refusals, Decided, Tells};
 use crate::answer::Answer;
@@ -102,7 +102,7 @@ pub fn certify<P: Process, Q: Process>(
     motions: &mut [u8],
 ) -> Result<Answer, SearchFault>
     ensures exact { λ r. ⌜ Exactly plain (P·Process .meaning (now (plan .entry))) (Q·Process .meaning (now (permit .entry))) (length (now (rows .entry))) (length (now (motions .entry))) (numbered searchNumber r) (now (rows .exit)) (now (motions .exit)) ⌝ }
-    ensures refusals { λ r. ⌜ Refusals (engine plain (P·Process .meaning (now (plan .entry))) (Q·Process .meaning (now (permit .entry)))) (length (now (rows .entry))) (length (now (motions .entry))) (numbered searchNumber r) ⌝ }
+    ensures refusals { λ r. ⌜ Refusals (searchFor plain (P·Process .meaning (now (plan .entry))) (Q·Process .meaning (now (permit .entry)))) (length (now (rows .entry))) (length (now (motions .entry))) (numbered searchNumber r) ⌝ }
     ensures decided { λ r. ⌜ Decided (P·Process .meaning (now (plan .entry))) (Q·Process .meaning (now (permit .entry))) (numbered searchNumber r) ⌝ }
     ensures tells { λ r. ⌜ Tells plain (P·Process .meaning (now (plan .entry))) (Q·Process .meaning (now (permit .entry))) (numbered searchNumber r) (now (rows .exit)) (now (motions .exit)) ⌝ }
 {

@@ -10,3 +10,6 @@ pub use answer::Answer;
 pub use answer::SearchFault;
 pub use answer::SearchFaultNumbered;
 pub use inclusion::certify;
+
+#[cfg(test)]
+mod tests;

@@ -3,6 +3,7 @@ ghost use mathlib.Core.Path.{_≡_};
 ghost use Prim.Native.Nat.{ℕ, _≤_, _<_, min};
 ghost use lib.ListN.{length, getD, take};
 ghost use Rattle.certificate.specs.Rows.{emptyRow};
+ghost use Rattle.reach.specs.Offers.{rest, offers as offersFrom};
 ghost use Rattle.search.specs.Answers.{Earlier, appendedOf, Appends, workOf, Works, endOf, Ends-so};
 ghost use Rattle.search.specs.Rule.{unlessListed, asks, ruled};
 ghost use Rattle.search.specs.Search.{tryAsk, tryRow, searchBy};
@@ -55,14 +56,7 @@ fn append(rows: &mut [Row], count: usize, row: Row) -> Option<usize>
 }
 
 // Works one move of row i: a silent one asks for nothing, and another for the row that it leads to.
-fn work_move<F: Rule>(
-    rule: &F,
-    rows: &mut [Row],
-    count: usize,
-    i: usize,
-    row: Row,
-    m: Move,
-) -> Work
+fn work_move<F: Rule>(rule: &F, rows: &mut [Row], count: usize, i: usize, row: Row, m: Move) -> Work
     requires some { ⌜ count ≤ length (now rows) ⌝ }
     requires few { ⌜ count ≤ 1024 ⌝ }
     requires earlier { ⌜ Earlier count (now rows) ⌝ }
@@ -88,6 +82,13 @@ fn work_move<F: Rule>(
     }
 }
 
+// The moves that a row offers: those of the states in the silent reach of its own.
+fn offers_of<P: Process>(plan: &P, row: Row) -> Offers
+    ensures { λ r. ⌜ rest (meaning (now (plan .entry))) r ≡ offersFrom (meaning (now (plan .entry))) (row .state) ⌝ }
+{
+    Offers::of(plan, row.state)
+}
+
 // Works the moves that row i offers, in order.
 fn work_row<P: Process, F: Rule>(
     plan: &P,
@@ -105,7 +106,7 @@ fn work_row<P: Process, F: Rule>(
 {
     let row = rows[i];
     let mut listed = count;
-    let mut offers = Offers::of(plan, row.state);
+    let mut offers = offers_of(plan, row);
     while let Some(m) = offers.next(plan) {
         match work_move(rule, rows, listed, i, row, m) {
             Work::Listed(n) => listed = n,

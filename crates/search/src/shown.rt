@@ -1,7 +1,7 @@
 // The motions that lead to a row, read along back.
 ghost use mathlib.Core.Path.{_≡_};
 ghost use mathlib.Core.List.{[], _∷_};
-ghost use Prim.Native.Nat.{ℕ, suc, _≤_, _<_};
+ghost use Prim.Native.Nat.{suc, _≤_, _<_};
 ghost use lib.ListN.{length};
 ghost use Rattle.search.specs.Answers.{Earlier, deep, shownOf, ShownFit};
 ghost use Rattle.search.specs.Engine.{trail};

@@ -5,5 +5,4 @@ ghost use Rattle.search.specs.Theorems.{Laws-suffice};
 // laws of After.
 pub fn laws_suffice()
     ensures { λ _. ⌜ Laws-suffice ⌝ }
-{
-}
+{}

@@ -1,6 +1,6 @@
 use mathlib.Core.Path.{_≡_, refl, sym, ap, _∙_}
 use mathlib.Core.Bool.{false}
-use Prim.Native.Nat.{ℕ, suc, _+_, _≤_, _<_, min}
+use Prim.Native.Nat.{ℕ, _≤_, _<_, min}
 use native.Mathlib.Omega.{arith}
 use lib.Dec.{eqb}
 use lib.ListN.{length, set, take, length-set}
@@ -22,7 +22,7 @@ loop-i-holds g c =
       first-listed (c .args .rows .now) r h refl,
       omega arith,
       λ m. first-row E (c .args .rows .now) r m h (ap row0 (c .start .ensures))
-      ∙ ap (λ (n : ℕ). searchBy E n m) (sym (length-set (c .args .rows .now) 0 r)),
+          ∙ ap (λ (n : ℕ). searchBy E n m) (sym (length-set (c .args .rows .now) 0 r)),
     )
 
 pub returns-in-Lacking : need.returns-in-Lacking
@@ -67,9 +67,9 @@ loop-i-again g c =
       listed-on 0 (c .loop-i .count) (c .in-Listed .n) (set (c .args .rows .now) 0 r) (c .loop-i .rows) (c .work-row .last .rows) L M,
       omega (arith, M .more),
       λ m. row-on E (min (length (set (c .args .rows .now) 0 r)) 1024) (min (length (c .loop-i .rows)) 1024) (c .loop-i .i) m (c .loop-i .rows) (c .loop-i .count)
-      (ap (λ (n : ℕ). min n 1024) (c .loop-i .kept .rows)) (L .fit) few
-      (take (c .in-Listed .n) (c .work-row .last .rows)) (c .loop-i-test .taken) (c .in-Listed .ensures tt .value)
-      ∙ c .loop-i .inv .2 m,
+          (ap (λ (n : ℕ). min n 1024) (c .loop-i .kept .rows)) (L .fit) few
+          (take (c .in-Listed .n) (c .work-row .last .rows)) (c .loop-i-test .taken) (c .in-Listed .ensures tt .value)
+          ∙ c .loop-i .inv .2 m,
     )
 
 pub returns : need.returns

@@ -1,4 +1,4 @@
-use mathlib.Core.Path.{_≡_, ap, _∙_}
+use mathlib.Core.Path.{ap, _∙_}
 use mathlib.Core.List.{List}
 use Prim.Native.Nat.{ℕ, _≤_, min}
 use native.Mathlib.Omega.{arith}
@@ -17,11 +17,11 @@ loop-m-again g c =
     let E = ruled p (g .F·Rule .begins (c .args .rule .now)) (g .F·Rule .leads (c .args .rule .now)) in
     let q = getD (c .args .rows .now) (c .args .i) emptyRow in (
       listed-on (c .args .count) (c .loop-m .listed) (c .in-Listed .n) (c .args .rows .now) (c .loop-m .rows) (c .work-move .last .rows)
-      (c .loop-m .inv .0) (c .in-Listed .ensures tt .keeps),
+          (c .loop-m .inv .0) (c .in-Listed .ensures tt .keeps),
       move-on E (min (length (c .args .rows .now)) 1024) (min (length (c .loop-m .rows)) 1024) (c .args .i) q (rest p (c .next .last .self)) (c .in-Some .m)
-      (take (c .loop-m .listed) (c .loop-m .rows)) (ap (λ (n : ℕ). min n 1024) (c .loop-m .kept .rows)) (rest p (c .loop-m .offers))
-      (take (c .in-Listed .n) (c .work-move .last .rows)) (c .in-Some .ensures tt .taken) (c .in-Listed .ensures tt .value)
-      ∙ c .loop-m .inv .1,
+          (take (c .loop-m .listed) (c .loop-m .rows)) (ap (λ (n : ℕ). min n 1024) (c .loop-m .kept .rows)) (rest p (c .loop-m .offers))
+          (take (c .in-Listed .n) (c .work-move .last .rows)) (c .in-Some .ensures tt .taken) (c .in-Listed .ensures tt .value)
+          ∙ c .loop-m .inv .1,
     )
 
 pub returns-in-Lacking : need.returns-in-Lacking
@@ -37,7 +37,7 @@ returns-in-Lacking g c =
           (take (c .loop-m .listed) (c .loop-m .rows)) (ap (λ (n : ℕ). min n 1024) (c .loop-m .kept .rows)) (rest p (c .loop-m .offers))
           (c .in-Lacking .motion) (c .in-Some .ensures tt .taken) (c .in-Lacking .ensures tt .value)
           ∙ c .loop-m .inv .1
-          ∙ ap (λ (ms : List Move). tryMoves E most (c .args .i) q ms (take (c .args .count) (c .args .rows .now))) (c .of-offers .ensures .value);
+          ∙ ap (λ (ms : List Move). tryMoves E most (c .args .i) q ms (take (c .args .count) (c .args .rows .now))) (c .offers-of-offers .ensures);
       keeps = (
         omega (arith, k .0),
         λ j l. k .1 j (omega arith),

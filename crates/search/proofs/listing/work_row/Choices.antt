@@ -1,7 +1,6 @@
 use mathlib.Core.Path.{_≡_}
 use Prim.Native.Nat.{min}
-use lib.ListN.{length, getD, take}
-use Rattle.certificate.specs.Rows.{emptyRow}
+use lib.ListN.{length, take}
 use Rattle.reach.specs.Offers.{rest}
 use Rattle.search.specs.Answers.{Listed-so}
 use Rattle.search.specs.Rule.{ruled}

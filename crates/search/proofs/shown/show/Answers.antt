@@ -1,5 +1,5 @@
-use mathlib.Core.Path.{_≡_, sym, ap}
-use Prim.Native.Nat.{ℕ, _+_, _≤_, _<_}
+use mathlib.Core.Path.{sym, ap}
+use Prim.Native.Nat.{_<_}
 use native.Mathlib.Omega.{arith}
 use lib.ListN.{length, length-set}
 use Rattle.search.specs.Engine.{trail}
@@ -27,10 +27,10 @@ pub loop-k-again : need.loop-k-again
 loop-k-again c =
     let b = c .pre .earlier (c .loop-k .at) (omega arith) in
     let long : c .depth-before .result < length (c .loop-k .motions) =
-        omega (arith, c .loop-k .kept .motions, length-set (c .args .motions .now) (c .depth-before .result) (c .args .last)) in (
+    omega (arith, c .loop-k .kept .motions, length-set (c .args .motions .now) (c .depth-before .result) (c .args .last)) in (
       omega arith,
       write-step (c .args .rows .now) _ (c .loop-k .motions) (c .loop-k .at) (c .loop-k .k) (c .depth-before .result) (c .loop-k .inv .1 .0)
-      (omega arith) (omega arith) long (c .loop-k .inv .1 .1) (c .loop-k .inv .1 .2),
+          (omega arith) (omega arith) long (c .loop-k .inv .1 .1) (c .loop-k .inv .1 .2),
     )
 
 pub returns : need.returns
