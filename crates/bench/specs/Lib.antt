@@ -1,1 +1,2 @@
 pub mod Permit
+pub mod Examples

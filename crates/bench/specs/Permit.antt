@@ -4,7 +4,7 @@ use Prim.Native.Nat.{ℕ}
 use Rattle.rowtable.specs.Rows.{Written}
 use Rattle.rowtable.specs.declared.transition.Transition.{Transition}
 
-abbrev row : ℕ → ℕ → ℕ → Transition
+abbrev pub row : ℕ → ℕ → ℕ → Transition
 row s a t = record { from = s; motion = a; to = t }
 
 -- outside the lane (0), inside with the load down (1), inside with the load up (2): enter and leave, fwd and rev with

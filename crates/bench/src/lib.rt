@@ -1,5 +1,6 @@
 // The bench permit, against which lanecheck judges plans.
 ghost use mathlib.Core.Path.{_≡_};
+ghost use Rattle.bench.specs.Examples.{Steps-through};
 ghost use Rattle.bench.specs.Permit.{benchTable};
 ghost use Rattle.rowtable.specs.Table.{contents};
 use rowtable::RowTable;
@@ -53,4 +54,11 @@ pub fn bench_permit() -> RowTable
     let mut table = RowTable::new();
     let _ = table.vet(STATES, &ROWS);
     table
+}
+
+// Some sets that silent reach and After give, shown by computing their definitions.
+pub fn examples_stand() -> u8
+    ensures { λ _. ⌜ Steps-through ⌝ }
+{
+    0
 }
