@@ -8,6 +8,3 @@ mod words;
 
 pub use reading::Plan;
 pub use reading::read;
-
-#[cfg(test)]
-mod tests;
