@@ -17,7 +17,7 @@ pub struct Cursor {
 }
 
 impl Cursor {
-    pub fn of(heap: Global, line: &str) -> Result<Cursor, AnyError> {
+    pub(crate) fn of(heap: Global, line: &str) -> Result<Cursor, AnyError> {
         let mut numbers = Vec::new(heap);
         for word in line.split_whitespace() {
             numbers.push(word.parse::<u16>()?)?;
@@ -26,7 +26,7 @@ impl Cursor {
     }
 
     // The next number.
-    pub fn take(&mut self) -> Result<u16, AnyError> {
+    pub(crate) fn take(&mut self) -> Result<u16, AnyError> {
         let at = self.at;
         match self.numbers.get(at) {
             Some(n) => {
@@ -62,7 +62,7 @@ pub struct Tables {
 }
 
 impl Tables {
-    pub fn new() -> Tables {
+    pub(crate) fn new() -> Tables {
         Tables {
             rows: RowTable::new(),
             forms: FormTable::new(),
@@ -70,7 +70,7 @@ impl Tables {
     }
 
     // Reads and vets a table.
-    pub fn read(&mut self, heap: Global, numbers: &mut Cursor) -> Result<Kind, AnyError> {
+    pub(crate) fn read(&mut self, heap: Global, numbers: &mut Cursor) -> Result<Kind, AnyError> {
         if numbers.take()? == 0 {
             self.read_rows(heap, numbers)
         } else {
