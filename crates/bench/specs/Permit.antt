@@ -1,5 +1,5 @@
 -- The bench permit.
-use Rattle.std.specs.Prelude.{List, [], ◌∷◌, ℕ}
+use Rattle.std.specs.Prelude.{[], ◌∷◌, ℕ}
 use Rattle.rowtable.specs.Rows.{Written}
 use Rattle.rowtable.specs.declared.transition.Transition.{Transition}
 

@@ -1,4 +1,6 @@
 // The bench permit, against which lanecheck judges plans.
+#![tactic(auto)]
+
 ghost use Rattle.std.specs.Prelude.{◌≡◌};
 ghost use Rattle.bench.specs.Examples.{StepsThrough};
 ghost use Rattle.bench.specs.Permit.{bench_table};

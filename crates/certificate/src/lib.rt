@@ -1,4 +1,6 @@
 // The rows of a certificate.
+#![tactic(auto)]
+
 ghost use Rattle.std.specs.Prelude.{◌≡◌, ℕ};
 ghost use Rattle.common.specs.First.{FirstWith};
 ghost use Rattle.certificate.specs.Rows.{empty_row, key_of};

@@ -28,7 +28,7 @@ pub trait Numbered {
 
 // The number and the place of a fault, as they are told.
 pub fn told<F: Numbered>(at: &Located<F>) -> (u8, usize)
-    ensures { result ≡ shown_by number_of at.now }
+    ensures { result ≡ shown_by F.number_of at.now }
 {
     (at.fault.number(), at.place)
 }

@@ -19,7 +19,7 @@ pub trait Keyed {
 
 // The index of the first record with the key; None exactly when no record has it.
 pub fn find_first<R: Keyed>(records: &[R], key: &R::Key) -> Option<usize>
-    ensures { FirstWith (λ x. by x ≡ meant key.now) records.now result }
+    ensures { FirstWith (λ x. R.by x ≡ R.meant key.now) records.now result }
 {
     for (i, x) in records.iter().enumerate() {
         if x.has_key(key) {

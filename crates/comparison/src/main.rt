@@ -8,6 +8,8 @@
 //
 // A table is 0 STATES ROWS (FROM MOTION TO).. or 1 RECORDS (KIND ARGUMENT)..; a certificate ROWS (STATE SET BACK BY)...
 // The calls are 0 admit, 1 start, 2 release, 3 done, 4 failed, 5 rest.
+#![tactic(auto)]
+
 mod admissions;
 mod calls;
 mod histories;

@@ -8,7 +8,7 @@ use Rattle.std.specs.List.{slice_get}
 use Rattle.process.specs.Meaning.{Proc, HasMove, Limits}
 use Rattle.process.specs.declared.moves.Move.{Move}
 use Rattle.reach.proofs.Rounds.{at_nth, nth_has, nth_some}
-use Rattle.controller.specs.Listed.{listed, fine, between, moves_at, listed_proc, Rising, Close, Inside}
+use Rattle.controller.specs.Listed.{listed, fine, moves_at, listed_proc, Rising, Close, Inside}
 
 -- place s says where the moves of state s start, and place n where the last ones end
 abbrev pub Starts : Proc → List ℕ → ℕ → Type 0

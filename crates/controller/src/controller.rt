@@ -54,8 +54,8 @@ impl Controller {
         permit: &Q,
         rows: &[Row],
     ) -> Result<(), Located<AdmitFault>>
-        ensures answer { admit_told result ≡ answer_of (view self.old) (an_admit (P.Process.meaning plan.now) (Q.Process.meaning permit.now) rows.now) }
-        ensures after { view self.new ≡ next_of (view self.old) (an_admit (P.Process.meaning plan.now) (Q.Process.meaning permit.now) rows.now) }
+        ensures answer { admit_told result ≡ answer_of (view self.old) (an_admit (P.meaning plan.now) (Q.meaning permit.now) rows.now) }
+        ensures after { view self.new ≡ next_of (view self.old) (an_admit (P.meaning plan.now) (Q.meaning permit.now) rows.now) }
     {
         if self.run.is_on() {
             return Err(unplaced(DriverFault::RunOn));
@@ -78,9 +78,9 @@ impl Controller {
         permit: &Q,
         rows: &[Row],
     ) -> Result<(), Located<AdmitFault>>
-        ensures answer { admit_told result ≡ answer_of (view self.old) (an_admit (P.Process.meaning plan.now) (Q.Process.meaning permit.now) rows.now) }
-        ensures after { view self.new ≡ next_of (view self.old) (an_admit (P.Process.meaning plan.now) (Q.Process.meaning permit.now) rows.now) }
-        ensures accounted { Accounted (view self.old) (an_admit (P.Process.meaning plan.now) (Q.Process.meaning permit.now) rows.now) (admit_told result) (view self.new) }
+        ensures answer { admit_told result ≡ answer_of (view self.old) (an_admit (P.meaning plan.now) (Q.meaning permit.now) rows.now) }
+        ensures after { view self.new ≡ next_of (view self.old) (an_admit (P.meaning plan.now) (Q.meaning permit.now) rows.now) }
+        ensures accounted { Accounted (view self.old) (an_admit (P.meaning plan.now) (Q.meaning permit.now) rows.now) (admit_told result) (view self.new) }
     {
         self.take_over(plan, permit, rows)
     }

@@ -1,4 +1,6 @@
 // The controller: it keeps an admitted plan, and releases one motion after the other.
+#![tactic(auto)]
+
 pub mod controller;
 mod copied;
 pub mod fault;

@@ -85,8 +85,8 @@ impl Run {
 
     // Releases a motion that the plan allows from the cursor on.
     pub(crate) fn release<P: Process>(&mut self, plan: &P, motion: u8) -> Result<Slip, DriverFault>
-        ensures answer { slip_told result ≡ release_from (meaning plan.now) self.old motion }
-        ensures run { self.new ≡ after_release (meaning plan.now) self.old motion }
+        ensures answer { slip_told result ≡ release_from (P.meaning plan.now) self.old motion }
+        ensures run { self.new ≡ after_release (P.meaning plan.now) self.old motion }
         ensures unspent { Unspent result }
     {
         match self.stage {

@@ -1,6 +1,8 @@
 // crosscheck: each line of standard input has the lengths of the lists for rows and motions, a plan and a permit; for
 // each line, one line with what vetting and search answer. A table is 0 STATES ROWS (FROM MOTION TO).. for a row
 // table, or 1 RECORDS (KIND ARGUMENT).. for a form table.
+#![tactic(auto)]
+
 mod tables;
 
 use certificate::Row;

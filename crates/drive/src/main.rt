@@ -1,4 +1,6 @@
 // drive: one task from beginning to end, one line a step.
+#![tactic(auto)]
+
 use motions::name_of;
 use std::fmt;
 use task::{Asked, Finding, Reply, Step, one_task};

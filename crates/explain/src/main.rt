@@ -1,6 +1,8 @@
 // explain: tells the author of a plan, in words, what is found of it against the bench permit: where a refused text is
 // wrong and by which rule, or what the permit allows in place of the motion that it lacks. Several texts may be given,
 // with a form feed between them.
+#![tactic(auto)]
+
 mod judging;
 mod wording;
 

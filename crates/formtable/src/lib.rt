@@ -1,4 +1,6 @@
 // Form tables: a term of a process written as a list of records, vetted before it is used.
+#![tactic(auto)]
+
 pub mod examples;
 pub mod fault;
 mod layout;

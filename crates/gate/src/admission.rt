@@ -19,7 +19,7 @@ fn tested<P: Process, Q: Process>(
     permit: &Q,
     rows: &[Row],
 ) -> Result<(), Located<CertificateFault>>
-    ensures { verdict_of result ≡ gate plain (P.Process.meaning plan.now) (Q.Process.meaning permit.now) rows.now }
+    ensures { verdict_of result ≡ gate plain (P.meaning plan.now) (Q.meaning permit.now) rows.now }
 {
     first_tests(plan, permit, rows)?;
     last_test(plan, permit, rows)
@@ -32,10 +32,10 @@ pub fn check<P: Process, Q: Process>(
     permit: &Q,
     rows: &[Row],
 ) -> Result<(), Located<CertificateFault>>
-    ensures exact { verdict_of result ≡ gate plain (P.Process.meaning plan.now) (Q.Process.meaning permit.now) rows.now }
-    ensures accepts { (verdict_of result ≡ accepted) ↔ Certifies plain (P.Process.meaning plan.now) (Q.Process.meaning permit.now) rows.now }
-    ensures refuses { (n i : ℕ) → (verdict_of result ≡ refused n i) ↔ Refused plain (P.Process.meaning plan.now) (Q.Process.meaning permit.now) rows.now n i }
-    ensures sound { verdict_of result ≡ accepted → Included (P.Process.meaning plan.now) (Q.Process.meaning permit.now) }
+    ensures exact { verdict_of result ≡ gate plain (P.meaning plan.now) (Q.meaning permit.now) rows.now }
+    ensures accepts { (verdict_of result ≡ accepted) ↔ Certifies plain (P.meaning plan.now) (Q.meaning permit.now) rows.now }
+    ensures refuses { (n i : ℕ) → (verdict_of result ≡ refused n i) ↔ Refused plain (P.meaning plan.now) (Q.meaning permit.now) rows.now n i }
+    ensures sound { verdict_of result ≡ accepted → Included (P.meaning plan.now) (Q.meaning permit.now) }
 {
     tested(plan, permit, rows)
 }

@@ -35,7 +35,7 @@ fn has_answer(rows: &[Row], state: u8, set: StateSet) -> bool
 
 // Is the move silent, or answered by a row with its target and a set within After of the set?
 fn is_answered<Q: Process>(permit: &Q, rows: &[Row], set: StateSet, step: Move) -> bool
-    ensures { result ≡ answered plain (meaning permit.now) rows.now set.bits step }
+    ensures { result ≡ answered plain (Q.meaning permit.now) rows.now set.bits step }
 {
     step.motion == SILENT || has_answer(rows, step.target, after(permit, set, step.motion))
 }
@@ -48,7 +48,7 @@ fn all_answered<P: Process, Q: Process>(
     set: StateSet,
     mut moves: Offers,
 ) -> bool
-    ensures { result ≡ all_moves (answered plain (Q.Process.meaning permit.now) rows.now set.bits) (rest (P.Process.meaning plan.now) moves) }
+    ensures { result ≡ all_moves (answered plain (Q.meaning permit.now) rows.now set.bits) (rest (P.meaning plan.now) moves) }
 {
     while let Some(step) = moves.next(plan) {
         if !is_answered(permit, rows, set, step) {
@@ -60,14 +60,14 @@ fn all_answered<P: Process, Q: Process>(
 
 // Is every move that the row's state offers answered?
 fn is_covered<P: Process, Q: Process>(plan: &P, permit: &Q, rows: &[Row], row: &Row) -> bool
-    ensures { result ≡ covered plain (P.Process.meaning plan.now) (Q.Process.meaning permit.now) rows.now row.now }
+    ensures { result ≡ covered plain (P.meaning plan.now) (Q.meaning permit.now) rows.now row.now }
 {
     all_answered(plan, permit, rows, row.set, Offers::of(plan, row.state))
 }
 
 // The first row with a move that no row answers.
 fn first_uncovered<P: Process, Q: Process>(plan: &P, permit: &Q, rows: &[Row]) -> Option<usize>
-    ensures { result ≡ first_bad (covered plain (P.Process.meaning plan.now) (Q.Process.meaning permit.now) rows.now) 0 rows.now }
+    ensures { result ≡ first_bad (covered plain (P.meaning plan.now) (Q.meaning permit.now) rows.now) 0 rows.now }
 {
     for (i, row) in rows.iter().enumerate() {
         if !is_covered(plan, permit, rows, row) {
@@ -83,7 +83,7 @@ pub fn last_test<P: Process, Q: Process>(
     permit: &Q,
     rows: &[Row],
 ) -> Result<(), Located<CertificateFault>>
-    ensures { verdict_of result ≡ last_test plain (P.Process.meaning plan.now) (Q.Process.meaning permit.now) rows.now }
+    ensures { verdict_of result ≡ last_test plain (P.meaning plan.now) (Q.meaning permit.now) rows.now }
 {
     match first_uncovered(plan, permit, rows) {
         Some(i) => Err(Located::at(CertificateFault::Unanswered, i)),

@@ -1,4 +1,6 @@
 // The gate: the tests that a certificate must pass before a plan is admitted.
+#![tactic(auto)]
+
 pub mod admission;
 mod cover;
 pub mod fault;

@@ -25,14 +25,14 @@ fn all_below(bits: u64, n: u8) -> bool
 
 // Is the row's state one of the plan, and its set one of the permit's states and not empty?
 fn row_fits<P: Process, Q: Process>(plan: &P, permit: &Q, row: &Row) -> bool
-    ensures { result ≡ fits (P.Process.meaning plan.now) (Q.Process.meaning permit.now) row.now }
+    ensures { result ≡ fits (P.meaning plan.now) (Q.meaning permit.now) row.now }
 {
     row.state < plan.states() && !row.set.is_empty() && all_below(row.set.bits, permit.states())
 }
 
 // The first row that does not fit.
 fn first_unfit<P: Process, Q: Process>(plan: &P, permit: &Q, rows: &[Row]) -> Option<usize>
-    ensures { result ≡ first_bad (fits (P.Process.meaning plan.now) (Q.Process.meaning permit.now)) 0 rows.now }
+    ensures { result ≡ first_bad (fits (P.meaning plan.now) (Q.meaning permit.now)) 0 rows.now }
 {
     for (i, row) in rows.iter().enumerate() {
         if !row_fits(plan, permit, row) {
@@ -55,7 +55,7 @@ pub fn first_tests<P: Process, Q: Process>(
     permit: &Q,
     rows: &[Row],
 ) -> Result<(), Located<CertificateFault>>
-    ensures { verdict_of result ≡ first_tests plain (P.Process.meaning plan.now) (Q.Process.meaning permit.now) rows.now }
+    ensures { verdict_of result ≡ first_tests plain (P.meaning plan.now) (Q.meaning permit.now) rows.now }
 {
     if rows.is_empty() || rows.len() > MAX_ROWS {
         return Err(Located::at(CertificateFault::RowCount, 0));

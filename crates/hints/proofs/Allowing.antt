@@ -1,11 +1,10 @@
 -- The motions allowed after a trace are those that go on with it.
-use Rattle.std.proofs.Common.{◌≡◌, ℕ, zero, suc, ◌+◌, ◌-◌, ◌<◌, ◌≤◌, Bool, true, false, ltb, ◌↔◌, List, [], ◌∷◌, ◌++◌, length, get_or, sym, refl, ap, ◌∙◌, subst, ⊎_elim, arith, length-append}
+use Rattle.std.proofs.Common.{◌≡◌, ℕ, zero, suc, ◌-◌, ◌<◌, ◌≤◌, Bool, false, List, [], ◌∷◌, ◌++◌, length, get_or, sym, refl, ap, ◌∙◌, subst, ⊎_elim, arith, length-append}
 use Rattle.std.proofs.lemmas.List.{get_or_at, get_or_append_left}
 use Rattle.std.proofs.lemmas.Bool.{cases_eq, ltb-true, lt-ltb}
 use Rattle.process.specs.Meaning.{Proc, Limits}
-use Rattle.process.specs.Runs.{Trace}
 use Rattle.process.specs.Sets.{only}
-use Rattle.reach.specs.Reach.{after, after_all, NoneSilent}
+use Rattle.reach.specs.Reach.{after, after_all}
 use Rattle.reach.proofs.Follows.{none_silent_push, after_push, trace_iff}
 use Rattle.hints.specs.Allowed.{allowed, allowed_up_to, allowed_list, Allows}
 

@@ -12,7 +12,7 @@ const MOTIONS: usize = 24;
 
 // The states in which the process can be right after the motions.
 pub fn after_motions<P: Process>(p: &P, motions: &[u8]) -> StateSet
-    ensures { result.bits ≡ after_all (meaning p.now) (only 0) motions.now }
+    ensures { result.bits ≡ after_all (P.meaning p.now) (only 0) motions.now }
 {
     let mut set = StateSet::single(0);
     for m in motions {
@@ -23,14 +23,14 @@ pub fn after_motions<P: Process>(p: &P, motions: &[u8]) -> StateSet
 
 // Does the process do the motion from a state of the set?
 fn allows<P: Process>(p: &P, set: StateSet, motion: u8) -> bool
-    ensures { result ≡ allowed (meaning p.now) set.bits motion }
+    ensures { result ≡ allowed (P.meaning p.now) set.bits motion }
 {
     !after(p, set, motion).is_empty()
 }
 
 // Which motions the process does from the set, the first of them motion 1.
 fn allowed_from<P: Process>(p: &P, set: StateSet) -> [bool; MOTIONS]
-    ensures { result ≡ allowed_up_to (meaning p.now) set.bits 24 }
+    ensures { result ≡ allowed_up_to (P.meaning p.now) set.bits 24 }
 {
     let mut list = [false; MOTIONS];
     for i in 0..MOTIONS {
@@ -41,8 +41,8 @@ fn allowed_from<P: Process>(p: &P, set: StateSet) -> [bool; MOTIONS]
 
 // Which motions the process allows after those: the first is said of motion 1, the last of motion 24.
 pub fn allowed_after<P: Process>(p: &P, motions: &[u8]) -> [bool; MOTIONS]
-    ensures exact { result ≡ allowed_list (meaning p.now) motions.now }
-    ensures says { Allows (meaning p.now) motions.now result }
+    ensures exact { result ≡ allowed_list (P.meaning p.now) motions.now }
+    ensures says { Allows (P.meaning p.now) motions.now result }
 {
     allowed_from(p, after_motions(p, motions))
 }

@@ -1,4 +1,6 @@
 // Hints for the author of a plan: where a place of the text stands, and what a process allows after some motions.
+#![tactic(auto)]
+
 mod allowed;
 mod place;
 

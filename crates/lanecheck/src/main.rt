@@ -1,4 +1,6 @@
 // lanecheck: reads a plan from standard input and reports on it against the bench permit.
+#![tactic(auto)]
+
 use anyhow::anyhow;
 use bench::bench_permit;
 use certificate::Row;

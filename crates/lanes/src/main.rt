@@ -1,4 +1,6 @@
 // lanes: reports on each line of standard input as a plan of its own, against the bench permit.
+#![tactic(auto)]
+
 use anyhow::anyhow;
 use bench::bench_permit;
 use certificate::Row;

@@ -1,5 +1,5 @@
 -- One byte of `lex`, and of a word.
-use Rattle.std.proofs.Common.{◌≡◌, ℕ, zero, suc, ◌+◌, ◌-◌, ◌<◌, ◌≤◌, true, false, List, [], ◌∷◌, length, get_or, take, drop, sym, refl, ap, ◌∙◌, arith}
+use Rattle.std.proofs.Common.{◌≡◌, ℕ, ◌+◌, ◌-◌, ◌<◌, ◌≤◌, false, List, length, get_or, take, drop, sym, refl, ap, ◌∙◌, arith}
 use Rattle.std.specs.List.{prefix_len}
 use Rattle.std.proofs.lemmas.Bool.{lt-leb, le-leb, cond-true, cond-false}
 use Rattle.std.proofs.lemmas.List.{drop_more, at_drop_more}
@@ -7,7 +7,7 @@ use Rattle.lexer.specs.declared.lex.Class.{Class}
 use Rattle.lexer.specs.declared.lex.Class.TheVariants.{Open, Close, Blank, Letter, Foreign}
 use Rattle.lexer.specs.declared.fault.TextFault.TheVariants.{BadToken}
 use Rattle.lexer.specs.Bytes.{class_of, is_letter, wordy}
-use Rattle.lexer.specs.Lex.{lex, by_class, word_step, Step, Tok, word, read, fault, opening, closing, ended}
+use Rattle.lexer.specs.Lex.{lex, by_class, word_step, Step, word, read, fault, opening, closing}
 
 module _ (t : List ℕ) (i : ℕ) where
   abbrev pub At : Class → Step

@@ -1,12 +1,12 @@
 -- The letters of a word that was read.
-use Rattle.std.proofs.Common.{◌≡◌, ℕ, suc, ◌+◌, Bool, true, false, cond, ◌&&◌, eqb, leb, List, [], ◌∷◌, take, sym, refl, ap, ◌∙◌, subst, ⊎_elim, arith}
+use Rattle.std.proofs.Common.{◌≡◌, ℕ, suc, ◌+◌, Bool, true, false, cond, eqb, leb, List, [], ◌∷◌, take, sym, refl, ap, ◌∙◌, subst, ⊎_elim, arith}
 use Rattle.std.specs.List.{prefix_len}
 use Rattle.std.proofs.lemmas.Bool.{false≢true, and_from, cases_Bool, cond-true, cond-false}
 use Rattle.lexer.specs.declared.fault.TextFault.TheVariants.{BadToken}
 use Rattle.lexer.specs.declared.lex.Class.{Class}
 use Rattle.lexer.specs.declared.lex.Class.TheVariants.{Open, Close, Blank, Letter, Foreign}
 use Rattle.lexer.specs.Bytes.{alnum, blank, class_of, is_letter, wordy, word_bytes}
-use Rattle.lexer.specs.Lex.{lex, by_class, word_step, Step, Tok, word, read, fault, opening, closing, ended}
+use Rattle.lexer.specs.Lex.{lex, by_class, word_step, Step, word, read, fault, opening, closing, ended}
 
 by_tests : (o c k a : Bool) → is_letter (cond o Open (cond c Close (cond k Blank (cond a Letter Foreign)))) ≡ true → a ≡ true
 by_tests true c k a e = absurd (false≢true e)

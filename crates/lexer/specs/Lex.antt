@@ -1,5 +1,5 @@
 -- One token of a text.
-use Rattle.std.specs.Prelude.{◌≡◌, ℕ, ◌+◌, Bool, cond, List, [], ◌∷◌, take, Some, None, Ok, Err, Option, Result, nat_le}
+use Rattle.std.specs.Prelude.{◌≡◌, ℕ, ◌+◌, cond, List, [], ◌∷◌, take, Some, None, Ok, Err, Option, Result, nat_le}
 use Rattle.std.specs.Borrow.{Bor}
 use Rattle.std.specs.List.{prefix_len}
 use Rattle.lexer.specs.Bytes.{class_of, wordy}
@@ -56,7 +56,7 @@ lex (b ∷ bs) i =
 abbrev pub PartAt : Bor (List ℕ) → ℕ → Token → Type 0
 PartAt text i token.Open = Unit {0}
 PartAt text i token.Close = Unit {0}
-PartAt text i (token.Word w) = (w.ptr.0 ≡ text.ptr.0) × (w.ptr.1 ≡ i + text.ptr.1)
+PartAt text i (token.Word w) = (w.ref_ptr.0 ≡ text.ref_ptr.0) × (w.ref_ptr.1 ≡ i + text.ref_ptr.1)
 
 abbrev pub InText : Bor (List ℕ) → Result (Option Placed) (Located TextFault) → Type 0
 InText text (Ok None) = Unit {0}

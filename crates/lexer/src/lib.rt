@@ -1,4 +1,6 @@
 // Tokens of a plan's text.
+#![tactic(auto)]
+
 pub mod fault;
 pub mod lex;
 pub mod token;

@@ -1,4 +1,6 @@
 // The motions of a shuttle, and their names.
+#![tactic(auto)]
+
 pub mod naming;
 pub mod words;
 

@@ -1,4 +1,6 @@
 // Processes, and sets of their states.
+#![tactic(auto)]
+
 pub mod moves;
 pub mod process;
 pub mod sets;

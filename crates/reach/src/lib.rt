@@ -1,4 +1,6 @@
 // What a process can do in silence: the silent reach of a set of its states, After, and the moves that a state offers.
+#![tactic(auto)]
+
 pub mod offers;
 pub mod reach;
 

@@ -29,15 +29,15 @@ impl Offers {
 
     // The moves that state s offers; none for a state that does not exist.
     pub fn of<P: Process>(p: &P, s: u8) -> Self
-        ensures value { rest (meaning p.now) result ≡ offers_of (meaning p.now) s }
-        ensures exact { OffersExact (meaning p.now) s (rest (meaning p.now) result) }
+        ensures value { rest (P.meaning p.now) result ≡ offers_of (P.meaning p.now) s }
+        ensures exact { OffersExact (P.meaning p.now) s (rest (P.meaning p.now) result) }
     {
         Offers::start(silent_reach(p, StateSet::single(s)))
     }
 
     // The move that the cursor is at, if its state is in the set and has one there.
     fn here<P: Process>(self, p: &P) -> Option<Move>
-        ensures { result ≡ slice_get (moves_in (meaning p.now) self.set.bits self.state) self.at }
+        ensures { result ≡ slice_get (moves_in (P.meaning p.now) self.set.bits self.state) self.at }
     {
         if self.set.contains(self.state) {
             p.move_at(self.state, self.at)
@@ -65,9 +65,9 @@ impl Offers {
 
     // The next move; None exactly when all are given.
     pub fn next<P: Process>(&mut self, p: &P) -> Option<Move>
-        ensures taken { Taken (rest (meaning p.now) self.old) result (rest (meaning p.now) self.new) }
-        ensures fewer { Fewer (rest (meaning p.now) self.old) result (rest (meaning p.now) self.new) }
-        ensures known { Known (meaning p.now) result }
+        ensures taken { Taken (rest (P.meaning p.now) self.old) result (rest (P.meaning p.now) self.new) }
+        ensures fewer { Fewer (rest (P.meaning p.now) self.old) result (rest (P.meaning p.now) self.new) }
+        ensures known { Known (P.meaning p.now) result }
     {
         while self.state < p.states() {
             if let Some(m) = self.here(p) {

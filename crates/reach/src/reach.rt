@@ -10,7 +10,7 @@ const SILENT: u8 = 0;
 
 // `onto` with the targets of state s by the motion.
 fn with_targets<P: Process>(p: &P, s: u8, motion: u8, onto: StateSet) -> StateSet
-    ensures { result.bits ≡ bit_or onto.bits (targets motion ((meaning p.now).moves s)) }
+    ensures { result.bits ≡ bit_or onto.bits (targets motion ((P.meaning p.now).moves s)) }
 {
     let mut all = onto;
     for k in 0..p.degree(s) {
@@ -25,7 +25,7 @@ fn with_targets<P: Process>(p: &P, s: u8, motion: u8, onto: StateSet) -> StateSe
 
 // `onto` with the targets of the states of `from` by the motion.
 fn with_image<P: Process>(p: &P, from: StateSet, motion: u8, onto: StateSet) -> StateSet
-    ensures { result.bits ≡ bit_or onto.bits (image (meaning p.now) motion from.bits) }
+    ensures { result.bits ≡ bit_or onto.bits (image (P.meaning p.now) motion from.bits) }
 {
     let mut all = onto;
     for s in 0..p.states() {
@@ -38,9 +38,9 @@ fn with_image<P: Process>(p: &P, from: StateSet, motion: u8, onto: StateSet) -> 
 
 // The states that silent steps reach from the set: round by round, until one adds nothing.
 pub fn silent_reach<P: Process>(p: &P, set: StateSet) -> StateSet
-    ensures value { result.bits ≡ silent_reach (meaning p.now) set.bits }
-    ensures least { Least (meaning p.now) set.bits result.bits }
-    ensures exact { ReachExact (meaning p.now) set.bits result.bits }
+    ensures value { result.bits ≡ silent_reach (P.meaning p.now) set.bits }
+    ensures least { Least (P.meaning p.now) set.bits result.bits }
+    ensures exact { ReachExact (P.meaning p.now) set.bits result.bits }
 {
     let mut all = set;
     for round in 0..p.states() {
@@ -55,7 +55,7 @@ pub fn silent_reach<P: Process>(p: &P, set: StateSet) -> StateSet
 
 // The targets of the silent reach of the set by the motion.
 fn follow<P: Process>(p: &P, set: StateSet, motion: u8) -> StateSet
-    ensures { result.bits ≡ after_of (meaning p.now) set.bits motion }
+    ensures { result.bits ≡ after_of (P.meaning p.now) set.bits motion }
 {
     let from = silent_reach(p, set);
     with_image(p, from, motion, StateSet::empty())
@@ -63,9 +63,9 @@ fn follow<P: Process>(p: &P, set: StateSet, motion: u8) -> StateSet
 
 // After: the states that the motion leads to from the silent reach of the set.
 pub fn after<P: Process>(p: &P, set: StateSet, motion: u8) -> StateSet
-    ensures value { result.bits ≡ after_of (meaning p.now) set.bits motion }
-    ensures exact { AfterExact (meaning p.now) set.bits motion result.bits }
-    ensures laws { AfterLaws (meaning p.now) set.bits motion result.bits }
+    ensures value { result.bits ≡ after_of (P.meaning p.now) set.bits motion }
+    ensures exact { AfterExact (P.meaning p.now) set.bits motion result.bits }
+    ensures laws { AfterLaws (P.meaning p.now) set.bits motion result.bits }
 {
     follow(p, set, motion)
 }

@@ -46,7 +46,7 @@ struct Wrapper<P> {
 }
 
 impl<P: Process> Process for Wrapper<P> {
-    ghost meaning = { λ w. P.Process.meaning w.inner };
+    ghost meaning = { λ w. P.meaning w.inner };
 
     ghost limits = { λ x. P.Process.limits x.inner };
 

@@ -4,7 +4,7 @@ use Rattle.formtable.specs.declared.record.Record.{Record}
 use Rattle.formtable.specs.Kinds.{row}
 use Rattle.formtable.specs.Places.{term}
 use Rattle.formtable.specs.Terms.{Term, prefix}
-use Rattle.formtable.specs.Written.{written, Placed, Writes}
+use Rattle.formtable.specs.Written.{written, Placed}
 use Rattle.formtable.specs.Written.{size as term_size}
 use Rattle.formtable.proofs.Meanings.{judged}
 use Rattle.motions.specs.Naming.{Names, motion_of}

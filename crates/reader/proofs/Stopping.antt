@@ -52,10 +52,10 @@ stray_wrong cap ts j ending p = tt
 stray_wrong cap ts j bad p = tt
 
 -- and the same wherever it stands
-stray_at : (k : Next) (p q : ℕ) → stray_at k q ≡ fault_at (stray_at k p).fault q
-stray_at (token t) p q = refl
-stray_at ending p q = refl
-stray_at bad p q = refl
+stray_anywhere : (k : Next) (p q : ℕ) → stray_at k q ≡ fault_at (stray_at k p).fault q
+stray_anywhere (token t) p q = refl
+stray_anywhere ending p q = refl
+stray_anywhere bad p q = refl
 
 -- something else than the wanted
 abbrev pub Unlike : (Next → Type 0) → Next → ℕ → Located TextFault → Type 0
@@ -145,7 +145,7 @@ module _ {cap : ℕ} {B M C : List Tok → Type 0} {R : List ℕ → ℕ → Loc
         other = λ x y. absurd (⊎_elim (λ e. x (n ∙ e)) (λ e. y (n ∙ e)) (stray_fault j p));
         wrong = λ pre c. subst (Wrong cap (pre ++ []) j) (sym n) (stray_wrong cap (pre ++ []) j j p);
         decides = λ s' a' at' h l. subst (λ z. R s' z (fault_at f.fault (next_tok s' at').place)) (sym h)
-            (subst (R s' at') (ap (λ z. stray_at z (next_tok s' at').place) l ∙ stray_at j p (next_tok s' at').place ∙ ap (λ z. fault_at z (next_tok s' at').place) (sym n))
+            (subst (R s' at') (ap (λ z. stray_at z (next_tok s' at').place) l ∙ stray_anywhere j p (next_tok s' at').place ∙ ap (λ z. fault_at z (next_tok s' at').place) (sym n))
             (again s' at' (λ z. u.0 (subst Want l z))));
       }
 

@@ -1,6 +1,6 @@
 -- What reading promises, in terms of plans.
 use Rattle.std.specs.Prelude.{◌≡◌, ℕ, zero, suc, ◌-◌, ◌≤◌, List, [], ◌++◌, length, take, replicate, Ok, Err, Result}
-use Rattle.std.specs.Borrow.{Bor, MutBor}
+use Rattle.std.specs.Borrow.{Bor}
 use Rattle.common.specs.declared.fault.Located.{Located}
 use Rattle.formtable.specs.declared.record.Record.{Record}
 use Rattle.formtable.specs.Places.{term}
@@ -32,7 +32,7 @@ pub record Readable (s : List ℕ) (cap : ℕ) (name : List ℕ) (t : Tree) : Ty
 
 -- the plan that was read: its name is the third token, its records are the tree's, and empty ones stand after them;
 -- the term of its table is the one that the tree writes
-pub record Taken (text : MutBor (List ℕ)) (cap : ℕ) (plan : Plan) (ys : List Record) : Type 0 where
+pub record Taken (text : Bor (List ℕ)) (cap : ℕ) (plan : Plan) (ys : List Record) : Type 0 where
   pub tree : Tree
   pub readable : Readable text.now cap plan.name.now tree
   pub part : PartFrom text (token_place text.now 2 0) plan.name

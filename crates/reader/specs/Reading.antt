@@ -1,6 +1,6 @@
 -- What the text of a plan reads as.
 use Rattle.std.specs.Prelude.{◌≡◌, ℕ, zero, suc, ◌+◌, ◌-◌, ◌<◌, ◌≤◌, Bool, true, false, cond, List, [], ◌∷◌, ◌++◌, length, drop, replicate, Some, None, Ok, Err, codes, Option, Result, nat_le, nat_lt, slice_index_or, slice_set}
-use Rattle.std.specs.Borrow.{Bor, MutBor}
+use Rattle.std.specs.Borrow.{Bor}
 use Rattle.std.specs.Str.{bytes_eq}
 use Rattle.common.specs.declared.fault.Located.{Located}
 use Rattle.lexer.specs.declared.fault.TextFault.{TextFault}
@@ -173,7 +173,7 @@ abbrev pub empty_record : Record
 empty_record = row 0 0
 
 -- the plan x that was read: its name, which is that very part of the text, and its count
-pub record PlanIs (text : MutBor (List ℕ)) (x : Outline) (plan : Plan) : Type 0 where
+pub record PlanIs (text : Bor (List ℕ)) (x : Outline) (plan : Plan) : Type 0 where
   pub letters : plan.name.now ≡ x.name
   pub part : PartFrom text x.start plan.name
   pub all : plan.count ≡ length x.rows

@@ -1,4 +1,6 @@
 // Reads the text of a plan into the records of a form table.
+#![tactic(auto)]
+
 mod forms;
 mod heads;
 mod reading;

@@ -1,4 +1,6 @@
 // From the text of a plan to the bytes of its report.
+#![tactic(auto)]
+
 mod lines;
 mod names;
 mod outcome;

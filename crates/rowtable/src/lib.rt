@@ -1,4 +1,6 @@
 // Row tables: processes written as lists of transitions, and their vetting.
+#![tactic(auto)]
+
 pub mod fault;
 mod index;
 pub mod table;

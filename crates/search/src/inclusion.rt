@@ -21,7 +21,7 @@ fn search_by<P: Process, F: Rule>(
     rows: &mut [Row],
     motions: &mut [u8],
 ) -> Result<Answer, SearchFault>
-    ensures value { outcome_of result rows.new motions.new ≡ search_by (ruled (meaning plan.now) (begins rule.now) (leads rule.now)) (length rows.old) (length motions.old) }
+    ensures value { outcome_of result rows.new motions.new ≡ search_by (ruled (P.meaning plan.now) (F.begins rule.now) (F.leads rule.now)) (length rows.old) (length motions.old) }
     ensures counted { Counted result (length rows.old) (length motions.old) }
 {
     match list_rows(plan, rule, rows) {
@@ -79,7 +79,7 @@ fn certify_exactly<P: Process, Q: Process>(
     rows: &mut [Row],
     motions: &mut [u8],
 ) -> Result<Answer, SearchFault>
-    ensures { Exactly plain (P.Process.meaning plan.now) (Q.Process.meaning permit.now) (length rows.old) (length motions.old) (numbered search_number result) rows.new motions.new }
+    ensures { Exactly plain (P.meaning plan.now) (Q.meaning permit.now) (length rows.old) (length motions.old) (numbered search_number result) rows.new motions.new }
 {
     let rule = Permit { process: permit };
     let answer = search_by(plan, &rule, rows, motions);
@@ -96,10 +96,10 @@ pub fn certify<P: Process, Q: Process>(
     rows: &mut [Row],
     motions: &mut [u8],
 ) -> Result<Answer, SearchFault>
-    ensures exact { Exactly plain (P.Process.meaning plan.now) (Q.Process.meaning permit.now) (length rows.old) (length motions.old) (numbered search_number result) rows.new motions.new }
-    ensures refusals { Refusals (search_for plain (P.Process.meaning plan.now) (Q.Process.meaning permit.now)) (length rows.old) (length motions.old) (numbered search_number result) }
-    ensures decided { Decided (P.Process.meaning plan.now) (Q.Process.meaning permit.now) (numbered search_number result) }
-    ensures tells { Tells plain (P.Process.meaning plan.now) (Q.Process.meaning permit.now) (numbered search_number result) rows.new motions.new }
+    ensures exact { Exactly plain (P.meaning plan.now) (Q.meaning permit.now) (length rows.old) (length motions.old) (numbered search_number result) rows.new motions.new }
+    ensures refusals { Refusals (search_for plain (P.meaning plan.now) (Q.meaning permit.now)) (length rows.old) (length motions.old) (numbered search_number result) }
+    ensures decided { Decided (P.meaning plan.now) (Q.meaning permit.now) (numbered search_number result) }
+    ensures tells { Tells plain (P.meaning plan.now) (Q.meaning permit.now) (numbered search_number result) rows.new motions.new }
 {
     certify_exactly(plan, permit, rows, motions)
 }

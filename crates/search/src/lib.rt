@@ -1,4 +1,6 @@
 // The search: a certificate that every trace of the plan is one of the permit, or a shortest trace that is not.
+#![tactic(auto)]
+
 mod answer;
 mod inclusion;
 mod listing;

@@ -58,7 +58,7 @@ fn work_move<F: Rule>(rule: &F, rows: &mut [Row], count: usize, i: usize, row: R
     requires few { count ≤ 1024 }
     requires earlier { Earlier count rows.old }
     requires inside { i < count }
-    ensures value { work_of result rows.new ≡ try_ask (min (length rows.old) 1024) m.motion (take count rows.old) (asks (leads rule.now) i row (take count rows.old) m) }
+    ensures value { work_of result rows.new ≡ try_ask (min (length rows.old) 1024) m.motion (take count rows.old) (asks (F.leads rule.now) i row (take count rows.old) m) }
     ensures keeps { Works count rows.old result rows.new }
 {
     if m.motion == SILENT {
@@ -81,7 +81,7 @@ fn work_move<F: Rule>(rule: &F, rows: &mut [Row], count: usize, i: usize, row: R
 
 // The moves that a row offers: those of the states in the silent reach of its own.
 fn offers_of<P: Process>(plan: &P, row: Row) -> Offers
-    ensures { rest (meaning plan.now) result ≡ offers_from (meaning plan.now) row.state }
+    ensures { rest (P.meaning plan.now) result ≡ offers_from (P.meaning plan.now) row.state }
 {
     Offers::of(plan, row.state)
 }
@@ -98,7 +98,7 @@ fn work_row<P: Process, F: Rule>(
     requires few { count ≤ 1024 }
     requires earlier { Earlier count rows.old }
     requires inside { i < count }
-    ensures value { work_of result rows.new ≡ try_row (ruled (meaning plan.now) (begins rule.now) (leads rule.now)) (min (length rows.old) 1024) i (slice_index_or rows.old i empty_row) (take count rows.old) }
+    ensures value { work_of result rows.new ≡ try_row (ruled (P.meaning plan.now) (F.begins rule.now) (F.leads rule.now)) (min (length rows.old) 1024) i (slice_index_or rows.old i empty_row) (take count rows.old) }
     ensures keeps { Works count rows.old result rows.new }
 {
     let row = rows[i];
@@ -116,7 +116,7 @@ fn work_row<P: Process, F: Rule>(
 
 // Lists rows from the first on, until none is left to work, a motion is lacking, or a row has no place.
 pub(crate) fn list_rows<P: Process, F: Rule>(plan: &P, rule: &F, rows: &mut [Row]) -> Listing
-    ensures value { (m : ℕ) → end_of m result rows.new ≡ search_by (ruled (meaning plan.now) (begins rule.now) (leads rule.now)) (length rows.old) m }
+    ensures value { (m : ℕ) → end_of m result rows.new ≡ search_by (ruled (P.meaning plan.now) (F.begins rule.now) (F.leads rule.now)) (length rows.old) m }
     ensures keeps { EndsSo result rows.new }
 {
     if rows.is_empty() {

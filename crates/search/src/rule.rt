@@ -28,9 +28,9 @@ pub struct Permit<'a, Q> {
 }
 
 impl<'a, Q: Process> Rule for Permit<'a, Q> {
-    ghost begins = { λ f. plain.start (Q.Process.meaning f.process.now) };
+    ghost begins = { λ f. plain.start (Q.meaning f.process.now) };
 
-    ghost leads = { λ f. leads_to plain (Q.Process.meaning f.process.now) };
+    ghost leads = { λ f. leads_to plain (Q.meaning f.process.now) };
 
     fn start(&self) -> StateSet {
         StateSet::single(0)

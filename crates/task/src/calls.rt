@@ -39,7 +39,7 @@ pub(crate) fn admit_first<P: Process, Q: Process>(
     permit: &Q,
     rows: &[Row],
 ) -> Step
-    ensures { (b : Call) → Steps (an_admit (P.Process.meaning plan.now) (Q.Process.meaning permit.now) rows.now) b (view c.old) (result ∷ []) (view c.new) }
+    ensures { (b : Call) → Steps (an_admit (P.meaning plan.now) (Q.meaning permit.now) rows.now) b (view c.old) (result ∷ []) (view c.new) }
 {
     let told = c.admit(plan, permit, rows);
     Step::Made(Asked::AdmitFirst, placed(told))
@@ -52,7 +52,7 @@ pub(crate) fn admit_second<P: Process, Q: Process>(
     permit: &Q,
     rows: &[Row],
 ) -> Step
-    ensures { (a : Call) → Steps a (an_admit (P.Process.meaning plan.now) (Q.Process.meaning permit.now) rows.now) (view c.old) (result ∷ []) (view c.new) }
+    ensures { (a : Call) → Steps a (an_admit (P.meaning plan.now) (Q.meaning permit.now) rows.now) (view c.old) (result ∷ []) (view c.new) }
 {
     let told = c.admit(plan, permit, rows);
     Step::Made(Asked::AdmitSecond, placed(told))

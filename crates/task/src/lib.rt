@@ -1,4 +1,6 @@
 // One task from beginning to end: two plans judged and driven, a third beyond the permit.
+#![tactic(auto)]
+
 mod calls;
 mod judging;
 mod step;

@@ -79,7 +79,7 @@ fn first_run<P: Process, Q: Process>(
     permit: &Q,
     rows: &[Row],
 ) -> [Step; 15]
-    ensures { (b : Call) → Steps (an_admit (P.Process.meaning plan.now) (Q.Process.meaning permit.now) rows.now) b (view c.old) result (view c.new) }
+    ensures { (b : Call) → Steps (an_admit (P.meaning plan.now) (Q.meaning permit.now) rows.now) b (view c.old) result (view c.new) }
 {
     let admitted = admit_first(c, plan, permit, rows);
     let started = start(c);
@@ -102,7 +102,7 @@ fn second_run<P: Process, Q: Process>(
     permit: &Q,
     rows: &[Row],
 ) -> [Step; 7]
-    ensures { (a : Call) → Steps a (an_admit (P.Process.meaning plan.now) (Q.Process.meaning permit.now) rows.now) (view c.old) result (view c.new) }
+    ensures { (a : Call) → Steps a (an_admit (P.meaning plan.now) (Q.meaning permit.now) rows.now) (view c.old) result (view c.new) }
 {
     let over = rest(c);
     let admitted = admit_second(c, plan, permit, rows);

@@ -1,5 +1,7 @@
 // texts: each line of standard input has the length of a record list, a space and a text in which a bar stands for a
 // line feed; for each line, one line with what the reader answers: the plan's name and its records, or the refusal.
+#![tactic(auto)]
+
 use anyhow::anyhow;
 use common::Numbered;
 use formtable::Record;

@@ -1,4 +1,6 @@
 // The worked lanes: known questions with known answers, shown of the definitions.
+#![tactic(auto)]
+
 ghost use Rattle.std.specs.Prelude.{◌≡◌, length};
 ghost use Rattle.worked.specs.Table.{LanesStand, lanes};
 

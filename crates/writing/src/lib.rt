@@ -1,4 +1,6 @@
 // Bytes and numbers written into the caller's list, and what a word is.
+#![tactic(auto)]
+
 pub mod fault;
 pub mod output;
 pub mod pieces;

@@ -15,7 +15,7 @@ const BLANK: Move = Move {
 
 // How many moves the plan has in all.
 pub(crate) fn count_moves<P: Process>(plan: &P) -> u16
-    ensures { result ≡ moves_in_all (meaning plan.now) }
+    ensures { result ≡ moves_in_all (P.meaning plan.now) }
 {
     let mut all: u16 = 0;
     for s in 0..plan.states() {
@@ -26,11 +26,11 @@ pub(crate) fn count_moves<P: Process>(plan: &P) -> u16
 
 // Writes the moves of s from `at` on, and says where they end.
 fn append_moves<P: Process>(moves: &mut [Move], at: u16, plan: &P, s: u8) -> u16
-    requires room { at + length ((meaning plan.now).moves s) ≤ length moves.old }
+    requires room { at + length ((P.meaning plan.now).moves s) ≤ length moves.old }
     requires few { length moves.old ≤ 256 }
-    ensures end { result ≡ at + length ((meaning plan.now).moves s) }
-    ensures moves { take result moves.new ≡ take at moves.old ++ (meaning plan.now).moves s }
-    ensures fine { fine (meaning plan.now).states moves.old ≡ true → fine (meaning plan.now).states moves.new ≡ true }
+    ensures end { result ≡ at + length ((P.meaning plan.now).moves s) }
+    ensures moves { take result moves.new ≡ take at moves.old ++ (P.meaning plan.now).moves s }
+    ensures fine { fine (P.meaning plan.now).states moves.old ≡ true → fine (P.meaning plan.now).states moves.new ≡ true }
 {
     let mut end = at;
     for k in 0..plan.degree(s) {
@@ -56,8 +56,8 @@ impl CopiedPlan {
 
     // The moves of a plan that has no more than there is room for.
     pub(crate) fn of<P: Process>(plan: &P) -> Self
-        requires { moves_in_all (meaning plan.now) ≤ 256 }
-        ensures { meaning_of result ≡ meaning plan.now }
+        requires { moves_in_all (P.meaning plan.now) ≤ 256 }
+        ensures { meaning_of result ≡ P.meaning plan.now }
     {
         let states = plan.states();
         let mut moves = [BLANK; 256];

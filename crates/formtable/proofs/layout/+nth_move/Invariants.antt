@@ -1,5 +1,5 @@
 use Rattle.std.proofs.Common.{◌-◌, length}
 use Rattle.formtable.proofs.layout.+nth_move.Given as goal
 
-abbrev pub decreases-nth-move : goal.decreases-nth-move
-decreases-nth-move l = length l.table.now - l.i
+abbrev pub decreases-nth_move : goal.decreases-nth_move
+decreases-nth_move l = length l.table.now - l.i

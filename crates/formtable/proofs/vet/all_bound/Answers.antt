@@ -4,12 +4,12 @@ use Rattle.formtable.specs.Vet.{bound_by}
 use Rattle.formtable.specs.Loops.{each_fails, each_more}
 use Rattle.formtable.proofs.vet.all_bound.Goals as goal
 
-pub returns-then-not-bound-at : goal.returns-then-not-bound-at
-returns-then-not-bound-at c =
+pub returns-then-not-bound_at : goal.returns-then-not-bound_at
+returns-then-not-bound_at c =
     let raw = c.args.raw.now in
-    sym (each_fails (λ j. bound_by raw j (form_at raw j)) (length raw) c.loop-j.j (omega arith) (sym c.bound-at.ensures ∙ c.if-not-bound-at.true))
+    sym (each_fails (λ j. bound_by raw j (form_at raw j)) (length raw) c.loop-j.j (omega arith) (sym c.bound_at.ensures ∙ c.if-not-bound_at.true))
 
 pub loop-j-preserved : goal.loop-j-preserved
 loop-j-preserved c =
     let raw = c.args.raw.now in
-    each_more (λ j. bound_by raw j (form_at raw j)) c.loop-j.j c.loop-j.invariant (sym c.bound-at.ensures ∙ c.if-not-bound-at.false)
+    each_more (λ j. bound_by raw j (form_at raw j)) c.loop-j.j c.loop-j.invariant (sym c.bound_at.ensures ∙ c.if-not-bound_at.false)

@@ -9,18 +9,18 @@ loop-step-preserved g c =
     let plan = g.P.Process.meaning c.args.plan.now in
     let test = answered plain (g.Q.Process.meaning c.args.permit.now) c.args.rows.now c.args.set.bits in
     move_on test (rest plan c.loop-step.moves) (rest plan c.next.new.self) c.in-Some.step (all_moves test (rest plan c.args.moves))
-    c.in-Some.ensures.taken c.if-not-is-answered.ensures c.loop-step.invariant
+    c.in-Some.ensures.taken c.if-not-is_answered.ensures c.loop-step.invariant
 
-pub returns-then-not-is-answered : goal.returns-then-not-is-answered
-returns-then-not-is-answered g c =
+pub returns-then-not-is_answered : goal.returns-then-not-is_answered
+returns-then-not-is_answered g c =
     let plan = g.P.Process.meaning c.args.plan.now in
     let test = answered plain (g.Q.Process.meaning c.args.permit.now) c.args.rows.now c.args.set.bits in
     move_fails test (rest plan c.loop-step.moves) (rest plan c.next.new.self) c.in-Some.step (all_moves test (rest plan c.args.moves))
-    c.in-Some.ensures.taken c.if-not-is-answered.ensures c.loop-step.invariant
+    c.in-Some.ensures.taken c.if-not-is_answered.ensures c.loop-step.invariant
 
 pub returns : goal.returns
 returns g c =
     let plan = g.P.Process.meaning c.args.plan.now in
     let test = answered plain (g.Q.Process.meaning c.args.permit.now) c.args.rows.now c.args.set.bits in
     moves_done test (rest plan c.loop-step.moves) (all_moves test (rest plan c.args.moves))
-    c.in-default.ensures.taken.0 c.loop-step.invariant
+    c.in_default.ensures.taken.0 c.loop-step.invariant

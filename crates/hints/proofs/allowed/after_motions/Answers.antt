@@ -1,4 +1,4 @@
-use Rattle.std.proofs.Common.{◌≡◌, ℕ, List, get_or, take, sym, ap, ◌∙◌}
+use Rattle.std.proofs.Common.{ℕ, get_or, take, sym, ap, ◌∙◌}
 use Rattle.std.proofs.lemmas.List.{take_more, take_all}
 use Rattle.process.specs.Sets.{only}
 use Rattle.reach.specs.Reach.{after, after_all}

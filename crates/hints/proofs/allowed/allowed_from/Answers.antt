@@ -1,4 +1,4 @@
-use Rattle.std.proofs.Common.{◌≡◌, ℕ, ◌<◌, Bool, List, [], ◌∷◌, ◌++◌, length, take, set, sym, refl, ap, ◌∙◌, add-one, arith, length-set, take-suc-set}
+use Rattle.std.proofs.Common.{◌≡◌, ℕ, ◌<◌, Bool, List, [], ◌∷◌, ◌++◌, length, take, set, sym, ap, ◌∙◌, add-one, arith, length-set, take-suc-set}
 use Rattle.std.proofs.lemmas.List.{take_all}
 use Rattle.hints.specs.Allowed.{allowed, allowed_up_to}
 use Rattle.hints.proofs.allowed.allowed_from.Goals as goal

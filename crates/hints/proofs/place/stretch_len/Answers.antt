@@ -5,12 +5,12 @@ use Rattle.hints.proofs.place.stretch_len.Goals as goal
 
 pub loop-i-preserved : goal.loop-i-preserved
 loop-i-preserved c =
-    let step = prefix_len-drop_yes (goes_on c.args.what) c.args.text.now c.loop-i.i 0 c.loop-i-test.true (sym c.if-not-goes-on.ensures) in
+    let step = prefix_len-drop_yes (goes_on c.args.what) c.args.text.now c.loop-i.i 0 c.loop-i-test.true (sym c.if-not-goes_on.ensures) in
     (omega arith, omega (arith, step, c.loop-i.invariant.1))
 
-pub returns-then-not-goes-on : goal.returns-then-not-goes-on
-returns-then-not-goes-on c =
-    let none = prefix_len-drop_no (goes_on c.args.what) c.args.text.now c.loop-i.i 0 c.loop-i-test.true (sym c.if-not-goes-on.ensures) in
+pub returns-then-not-goes_on : goal.returns-then-not-goes_on
+returns-then-not-goes_on c =
+    let none = prefix_len-drop_no (goes_on c.args.what) c.args.text.now c.loop-i.i 0 c.loop-i-test.true (sym c.if-not-goes_on.ensures) in
     omega (arith, none, c.loop-i.invariant.1)
 
 pub returns : goal.returns

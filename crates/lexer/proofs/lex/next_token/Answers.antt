@@ -1,4 +1,4 @@
-use Rattle.std.proofs.Common.{◌≡◌, sym, ap, ◌∙◌, arith}
+use Rattle.std.proofs.Common.{sym, ◌∙◌}
 use Rattle.std.proofs.lemmas.List.{at_drop_all}
 use Rattle.lexer.specs.Lex.{lex}
 use Rattle.lexer.proofs.Steps.{lex_at}
@@ -14,7 +14,7 @@ pub returns-in-Foreign : goal.returns-in-Foreign
 returns-in-Foreign c = record { step = sym (lex_at _ _ _ c.loop-i-test.true c.in-Foreign.ensures) ∙ c.loop-i.invariant; part = tt }
 
 pub returns-in-Letter : goal.returns-in-Letter
-returns-in-Letter c = record { step = c.word-at.ensures.step ∙ sym (lex_at _ _ _ c.loop-i-test.true c.in-Letter.ensures) ∙ c.loop-i.invariant; part = c.word-at.ensures.part }
+returns-in-Letter c = record { step = c.word_at.ensures.step ∙ sym (lex_at _ _ _ c.loop-i-test.true c.in-Letter.ensures) ∙ c.loop-i.invariant; part = c.word_at.ensures.part }
 
 pub loop-i-preserved : goal.loop-i-preserved
 loop-i-preserved c = sym (lex_at _ _ _ c.loop-i-test.true c.in-Blank.ensures) ∙ c.loop-i.invariant

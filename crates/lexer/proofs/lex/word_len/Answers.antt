@@ -1,4 +1,4 @@
-use Rattle.std.proofs.Common.{◌≡◌, true, false, get_or, sym, ap, ◌∙◌, arith}
+use Rattle.std.proofs.Common.{sym, ap, ◌∙◌, arith}
 use Rattle.std.proofs.lemmas.List.Sums.{prefix_len-drop_yes, prefix_len-drop_no, prefix_len-drop_all}
 use Rattle.lexer.specs.Bytes.{wordy, is_letter}
 use Rattle.lexer.proofs.Steps.{not_letter}
@@ -9,9 +9,9 @@ loop-n-preserved c =
     let more = prefix_len-drop_yes wordy c.args.rest.now c.loop-n.n 0 c.loop-n-test.true (sym (ap is_letter c.in-Letter.ensures)) in
     omega (arith, c.loop-n.invariant)
 
-pub returns-in-default : goal.returns-in-default
-returns-in-default c =
-    let none = prefix_len-drop_no wordy c.args.rest.now c.loop-n.n 0 c.loop-n-test.true (sym (ap is_letter c.class-of.ensures) ∙ not_letter _ c.in-default.not-Letter) in
+pub returns-in_default : goal.returns-in_default
+returns-in_default c =
+    let none = prefix_len-drop_no wordy c.args.rest.now c.loop-n.n 0 c.loop-n-test.true (sym (ap is_letter c.class_of.ensures) ∙ not_letter _ c.in_default.not-Letter) in
     omega (arith, c.loop-n.invariant)
 
 pub returns : goal.returns

@@ -4,6 +4,6 @@ use Rattle.motions.proofs.naming.place_of.Goals as goal
 pub returns : goal.returns
 returns c =
     record {
-      is = found_is c.table.result.now c.args.word.now c.find-first.result c.table.ensures.is c.find-first.ensures;
-      within = found_within c.table.result.now c.args.word.now c.find-first.result c.table.ensures.count c.find-first.ensures;
+      is = found_is c.table.result.now c.args.word.now c.find_first.result c.table.ensures.is c.find_first.ensures;
+      within = found_within c.table.result.now c.args.word.now c.find_first.result c.table.ensures.count c.find_first.ensures;
     }

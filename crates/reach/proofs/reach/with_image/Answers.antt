@@ -11,6 +11,6 @@ pub loop-s-preserved : goal.loop-s-preserved
 loop-s-preserved g c =
     let p = g.P.Process.meaning c.args.p.now in
     elim c.if-contains.branch [
-      | then-contains w ↦ ap (λ q. q.bits) w.all-is ∙ image_yes p _ _ _ _ _ _ w.if-contains.ensures c.loop-s.invariant w.with-targets-all.ensures
+      | then-contains w ↦ ap (λ q. q.bits) w.all-is ∙ image_yes p _ _ _ _ _ _ w.if-contains.ensures c.loop-s.invariant w.with_targets-all.ensures
       | else-contains w ↦ ap (λ q. q.bits) w.all-is ∙ image_no p _ _ _ _ _ w.if-contains.ensures c.loop-s.invariant
     ]

@@ -5,7 +5,7 @@ use Rattle.reader.proofs.reading.read.Goals as goal
 
 pub returns : goal.returns
 returns c =
-    let is = c.read-and-clear.ensures in
+    let is = c.read_and_clear.ensures in
     let text = c.args.text in
     let cap = length c.args.records.now in
     record {

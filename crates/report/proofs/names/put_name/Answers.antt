@@ -5,5 +5,5 @@ use Rattle.report.proofs.names.put_name.Goals as goal
 
 pub returns : goal.returns
 returns c =
-    put_seq _ _ _ (codes " ") (letters c.args.motion) _ _ _ c.put-bytes.auto.out c.in-ok-next.ensures
-    (rw c.letters-of.ensures at c.put-bytes-2.ensures)
+    put_seq _ _ _ (codes " ") (letters c.args.motion) _ _ _ c.put_bytes.auto.out c.in_ok-next.ensures
+    (rw c.letters_of.ensures at c.put_bytes-2.ensures)

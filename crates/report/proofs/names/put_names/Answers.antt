@@ -6,14 +6,14 @@ use Rattle.report.specs.Lines.{spaced}
 use Rattle.writing.proofs.Puts.{put_seq, put_fails, joined_more_at, joined_split}
 use Rattle.report.proofs.names.put_names.Goals as goal
 
-pub returns-in-err-at : goal.returns-in-err-at
-returns-in-err-at c =
+pub returns-in_err-at : goal.returns-in_err-at
+returns-in_err-at c =
     let i = c.loop-m.m-index in
     let ms = c.args.motions.now in
-    let p = err_from_is_err_and c.from-residual.result c.from-residual.ensures.1 in
+    let p = err_from_is_err_and c.from_residual.result c.from_residual.ensures.1 in
     rw (p.1, p.2, joined_split spaced ms i 0 c.loop-m-test.true)
-    (put_fails c.args.out.now c.put-name.new.out _ (flat_map spaced (drop (i + 1) ms)) c.args.start _
-    (put_seq _ c.loop-m.out _ _ (spaced (get_or ms i 0)) _ c.loop-m.at (Err c.in-err-at.field-0.0) c.loop-m.invariant.0 c.loop-m.invariant.1 c.in-err-at.ensures))
+    (put_fails c.args.out.now c.put_name.new.out _ (flat_map spaced (drop (i + 1) ms)) c.args.start _
+    (put_seq _ c.loop-m.out _ _ (spaced (get_or ms i 0)) _ c.loop-m.at (Err c.in_err-at.field-0.0) c.loop-m.invariant.0 c.loop-m.invariant.1 c.in_err-at.ensures))
 
 pub loop-m-preserved : goal.loop-m-preserved
 loop-m-preserved c =
@@ -21,7 +21,7 @@ loop-m-preserved c =
     let ms = c.args.motions.now in (
       omega arith,
       rw (joined_more_at spaced ms i 0 c.loop-m-test.true)
-          (put_seq _ c.loop-m.out c.put-name.new.out _ (spaced (get_or ms i 0)) _ c.loop-m.at (Ok c.in-ok-at.at) c.loop-m.invariant.0 c.loop-m.invariant.1 c.in-ok-at.ensures),
+          (put_seq _ c.loop-m.out c.put_name.new.out _ (spaced (get_or ms i 0)) _ c.loop-m.at (Ok c.in_ok-at.at) c.loop-m.invariant.0 c.loop-m.invariant.1 c.in_ok-at.ensures),
     )
 
 pub returns : goal.returns

@@ -11,8 +11,8 @@ bounds-moves-end c =
     let e = ap length (moves_yes c.args.rows.now c.loop-row.row-index c.args.s _ c.loop-row-test.true c.if-row-s.true) in
     omega arith
 
-pub overflow-add-end : goal.overflow-add-end
-overflow-add-end c =
+pub overflow_add-end : goal.overflow_add-end
+overflow_add-end c =
     let e = ap length (moves_yes c.args.rows.now c.loop-row.row-index c.args.s _ c.loop-row-test.true c.if-row-s.true) in
     omega arith
 
@@ -24,7 +24,7 @@ loop-row-preserved c =
           let e = moves_yes c.args.rows.now c.loop-row.row-index c.args.s _ c.loop-row-test.true w.if-row-s.true in
           let n = ap length e in
           let h : c.loop-row.end < length c.loop-row.moves = omega arith in
-          let put = w.moves_is ∙ ap (set c.loop-row.moves c.loop-row.end) w.to-move.ensures in (
+          let put = w.moves-is ∙ ap (set c.loop-row.moves c.loop-row.end) w.to_move.ensures in (
             omega (arith, w.end-is),
             ap₂ (λ k ms. take k ms ++ rest) w.end-is put ∙ appended_more c.loop-row.moves c.loop-row.end _ _ _ h e ∙ c.loop-row.invariant.1,
           )
@@ -32,7 +32,7 @@ loop-row-preserved c =
           let e = moves_no c.args.rows.now c.loop-row.row-index c.args.s _ c.loop-row-test.true w.if-row-s.false in
           let n = ap length e in (
             omega (arith, w.end-is),
-            ap₂ (λ k ms. take k ms ++ rest) w.end-is w.moves_is ∙ ap (λ ms. take c.loop-row.end c.loop-row.moves ++ ms) (sym e) ∙ c.loop-row.invariant.1,
+            ap₂ (λ k ms. take k ms ++ rest) w.end-is w.moves-is ∙ ap (λ ms. take c.loop-row.end c.loop-row.moves ++ ms) (sym e) ∙ c.loop-row.invariant.1,
           )
     ]
 

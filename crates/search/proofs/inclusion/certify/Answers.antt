@@ -8,4 +8,4 @@ pub returns : goal.returns
 returns g c =
     exactly_tells (g.P.Process.meaning c.args.plan.now) (g.Q.Process.meaning c.args.permit.now)
     (g.met.P.Process.limits c.args.plan.now) (g.met.Q.Process.limits c.args.permit.now) (length c.args.rows.now) (length c.args.motions.now)
-    (numbered search_number c.certify-exactly.result) c.certify-exactly.new.rows c.certify-exactly.new.motions c.certify-exactly.ensures
+    (numbered search_number c.certify_exactly.result) c.certify_exactly.new.rows c.certify_exactly.new.motions c.certify_exactly.ensures

@@ -13,7 +13,7 @@ pub loop-i-init : goal.loop-i-init
 loop-i-init g c =
     let E = ruled (g.P.Process.meaning c.args.plan.now) (g.F.Rule.begins c.args.rule.now) (g.F.Rule.leads c.args.rule.now) in
     let r : Row = record { state = 0; set = c.start.result; back = 0; by = 0 } in
-    let h : 0 < length c.args.rows.now = any_row (length c.args.rows.now) (sym c.if-is-empty.ensures) in (
+    let h : 0 < length c.args.rows.now = any_row (length c.args.rows.now) (sym c.if-is_empty.ensures) in (
       first_listed c.args.rows.now r h refl,
       omega arith,
       λ m. first_row E c.args.rows.now r m h (ap row0 c.start.ensures)
@@ -31,7 +31,7 @@ returns-in-Lacking g c =
       value = λ m.
           row_lost E (min (length (set c.args.rows.now 0 r)) 1024) (min (length c.loop-i.rows) 1024) c.loop-i.i m c.loop-i.rows c.loop-i.count
           (ap (λ (n : ℕ). min n 1024) c.loop-i.auto.rows) L.fit few
-          c.in-Lacking.motion c.work-row.new.rows c.loop-i-test.true k.1 k.2 c.in-Lacking.ensures.value
+          c.in-Lacking.motion c.work_row.new.rows c.loop-i-test.true k.1 k.2 c.in-Lacking.ensures.value
           ∙ c.loop-i.invariant.2 m
           ∙ ap (λ (n : ℕ). search_by E n m) (length-set c.args.rows.now 0 r);
       keeps = (omega (arith, k.0), λ j l. k.1 j (omega arith));
@@ -59,11 +59,11 @@ loop-i-preserved g c =
     let L = c.loop-i.invariant.0 in
     let M = c.in-Listed.ensures.keeps in
     let few : c.loop-i.count ≤ min (length (set c.args.rows.now 0 r)) 1024 = omega (arith, L.fit, L.few, c.loop-i.auto.rows) in (
-      listed_on 0 c.loop-i.count c.in-Listed.n (set c.args.rows.now 0 r) c.loop-i.rows c.work-row.new.rows L M,
+      listed_on 0 c.loop-i.count c.in-Listed.n (set c.args.rows.now 0 r) c.loop-i.rows c.work_row.new.rows L M,
       omega (arith, M.more),
       λ m. row_on E (min (length (set c.args.rows.now 0 r)) 1024) (min (length c.loop-i.rows) 1024) c.loop-i.i m c.loop-i.rows c.loop-i.count
           (ap (λ (n : ℕ). min n 1024) c.loop-i.auto.rows) L.fit few
-          (take c.in-Listed.n c.work-row.new.rows) c.loop-i-test.true c.in-Listed.ensures.value
+          (take c.in-Listed.n c.work_row.new.rows) c.loop-i-test.true c.in-Listed.ensures.value
           ∙ c.loop-i.invariant.2 m,
     )
 

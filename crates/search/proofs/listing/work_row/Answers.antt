@@ -12,11 +12,11 @@ loop-m-preserved g c =
     let p = g.P.Process.meaning c.args.plan.now in
     let E = ruled p (g.F.Rule.begins c.args.rule.now) (g.F.Rule.leads c.args.rule.now) in
     let q = get_or c.args.rows.now c.args.i empty_row in (
-      listed_on c.args.count c.loop-m.listed c.in-Listed.n c.args.rows.now c.loop-m.rows c.work-move.new.rows
+      listed_on c.args.count c.loop-m.listed c.in-Listed.n c.args.rows.now c.loop-m.rows c.work_move.new.rows
           c.loop-m.invariant.0 c.in-Listed.ensures.keeps,
       move_on E (min (length c.args.rows.now) 1024) (min (length c.loop-m.rows) 1024) c.args.i q (rest p c.next.new.self) c.in-Some.m
           (take c.loop-m.listed c.loop-m.rows) (ap (λ (n : ℕ). min n 1024) c.loop-m.auto.rows) (rest p c.loop-m.offers)
-          (take c.in-Listed.n c.work-move.new.rows) c.in-Some.ensures.taken c.in-Listed.ensures.value
+          (take c.in-Listed.n c.work_move.new.rows) c.in-Some.ensures.taken c.in-Listed.ensures.value
           ∙ c.loop-m.invariant.1,
     )
 
@@ -33,10 +33,10 @@ returns-in-Lacking g c =
           (take c.loop-m.listed c.loop-m.rows) (ap (λ (n : ℕ). min n 1024) c.loop-m.auto.rows) (rest p c.loop-m.offers)
           c.in-Lacking.motion c.in-Some.ensures.taken c.in-Lacking.ensures.value
           ∙ c.loop-m.invariant.1
-          ∙ ap (λ (ms : List Move). try_moves E most c.args.i q ms (take c.args.count c.args.rows.now)) c.offers-of-offers.ensures;
+          ∙ ap (λ (ms : List Move). try_moves E most c.args.i q ms (take c.args.count c.args.rows.now)) c.offers_of-offers.ensures;
       keeps = (
         omega (arith, k.0),
         λ j l. k.1 j (omega arith),
-        same_on c.args.count c.loop-m.listed c.args.rows.now c.loop-m.rows c.work-move.new.rows more c.loop-m.invariant.0.same_rows k.2,
+        same_on c.args.count c.loop-m.listed c.args.rows.now c.loop-m.rows c.work_move.new.rows more c.loop-m.invariant.0.same_rows k.2,
       );
     }

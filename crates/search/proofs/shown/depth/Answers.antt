@@ -18,6 +18,6 @@ loop-step-preserved c =
     let b = c.requires.earlier c.loop-step.at (omega arith) in (
       omega arith,
       omega arith,
-      count_step c.args.rows.now c.args.i _ c.loop-step.n c.loop-step.at c.loop-step.-step c.loop-step.invariant.2.0
+      count_step c.args.rows.now c.args.i _ c.loop-step.n c.loop-step.at c.loop-step._step c.loop-step.invariant.2.0
           c.if-at-eq0.false (omega arith) c.loop-step.invariant.2.1 c.loop-step.invariant.2.2,
     )

@@ -4,11 +4,11 @@ use Rattle.task.proofs.whole.first_run.Goals as goal
 pub returns : goal.returns
 returns g c b h before =
     let a = admit (g.P.Process.meaning c.args.plan.now) (g.Q.Process.meaning c.args.permit.now) c.args.rows.now in
-    c.release-over-rest-late.ensures a b _
+    c.release_over_rest-late.ensures a b _
     (c.start-again.ensures a b _
-    (c.release-failed-leave.ensures a b _
-    (c.release-done-lift.ensures a b _
-    (c.release-done-fwd.ensures a b _
-    (c.release-done-enter.ensures a b _
+    (c.release_failed-leave.ensures a b _
+    (c.release_done-lift.ensures a b _
+    (c.release_done-fwd.ensures a b _
+    (c.release_done-enter.ensures a b _
     (c.start-started.ensures a b _
-    (c.admit-first-admitted.ensures b h before)))))))
+    (c.admit_first-admitted.ensures b h before)))))))

@@ -14,8 +14,8 @@ returns c = (
   _,
   _,
   _,
-  with_permit _ _ _ _ (c.first-run-first-steps.result ++ c.second-run-second-steps.result) _ _ (meant bench_table) (ap meant c.bench-permit-permit.ensures)
-      (subst (λ (h : History). Accounts h (view c.second-run-second-steps.new.c))
-      (sym (through_both _ _ c.first-run-first-steps.result c.second-run-second-steps.result []))
-      (c.second-run-second-steps.ensures _ _ (c.first-run-first-steps.ensures _ [] c.new-controller.ensures.accounts))),
+  with_permit _ _ _ _ (c.first_run-first_steps.result ++ c.second_run-second_steps.result) _ _ (meant bench_table) (ap meant c.bench_permit-permit.ensures)
+      (subst (λ (h : History). Accounts h (view c.second_run-second_steps.new.c))
+      (sym (through_both _ _ c.first_run-first_steps.result c.second_run-second_steps.result []))
+      (c.second_run-second_steps.ensures _ _ (c.first_run-first_steps.ensures _ [] c.new-controller.ensures.accounts))),
 )

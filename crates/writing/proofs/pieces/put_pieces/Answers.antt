@@ -11,14 +11,14 @@ use Rattle.writing.proofs.pieces.put_pieces.Goals as goal
 abbrev none : Piece
 none = Bytes (record { ref_ptr = (0, 0); now = [] })
 
-pub returns-in-err-at : goal.returns-in-err-at
-returns-in-err-at c =
+pub returns-in_err-at : goal.returns-in_err-at
+returns-in_err-at c =
     let i = c.loop-piece.piece-index in
     let pieces = c.args.pieces.now in
-    let p = err_from_is_err_and c.from-residual.result c.from-residual.ensures.1 in
+    let p = err_from_is_err_and c.from_residual.result c.from_residual.ensures.1 in
     rw (p.1, p.2, joined_split piece_text pieces i none c.loop-piece-test.true)
-    (put_fails c.args.out.now c.put-piece.new.out _ (flat_map piece_text (drop (i + 1) pieces)) c.args.start _
-    (put_seq _ c.loop-piece.out _ _ (piece_text (get_or pieces i none)) _ c.loop-piece.at (Err c.in-err-at.field-0.0) c.loop-piece.invariant.0 c.loop-piece.invariant.1 c.in-err-at.ensures))
+    (put_fails c.args.out.now c.put_piece.new.out _ (flat_map piece_text (drop (i + 1) pieces)) c.args.start _
+    (put_seq _ c.loop-piece.out _ _ (piece_text (get_or pieces i none)) _ c.loop-piece.at (Err c.in_err-at.field-0.0) c.loop-piece.invariant.0 c.loop-piece.invariant.1 c.in_err-at.ensures))
 
 pub loop-piece-preserved : goal.loop-piece-preserved
 loop-piece-preserved c =
@@ -26,7 +26,7 @@ loop-piece-preserved c =
     let pieces = c.args.pieces.now in (
       omega arith,
       rw (joined_more_at piece_text pieces i none c.loop-piece-test.true)
-          (put_seq _ c.loop-piece.out c.put-piece.new.out _ (piece_text (get_or pieces i none)) _ c.loop-piece.at (Ok c.in-ok-at.at) c.loop-piece.invariant.0 c.loop-piece.invariant.1 c.in-ok-at.ensures),
+          (put_seq _ c.loop-piece.out c.put_piece.new.out _ (piece_text (get_or pieces i none)) _ c.loop-piece.at (Ok c.in_ok-at.at) c.loop-piece.invariant.0 c.loop-piece.invariant.1 c.in_ok-at.ensures),
     )
 
 pub returns : goal.returns

@@ -4,14 +4,14 @@ use Rattle.writing.specs.Words.{word_bytes}
 use Rattle.writing.proofs.WordBytes.{byte_passes, byte_fails}
 use Rattle.writing.proofs.words.all_word_bytes.Goals as goal
 
-pub returns-then-not-is-word-byte : goal.returns-then-not-is-word-byte
-returns-then-not-is-word-byte c =
-    sym (byte_fails c.args.bytes.now c.loop-byte.byte-index c.loop-byte-test.true (sym c.if-not-is-word-byte.ensures))
+pub returns-then-not-is_word_byte : goal.returns-then-not-is_word_byte
+returns-then-not-is_word_byte c =
+    sym (byte_fails c.args.bytes.now c.loop-byte.byte-index c.loop-byte-test.true (sym c.if-not-is_word_byte.ensures))
     ∙ c.loop-byte.invariant
 
 pub loop-byte-preserved : goal.loop-byte-preserved
 loop-byte-preserved c =
-    sym (byte_passes c.args.bytes.now c.loop-byte.byte-index c.loop-byte-test.true (sym c.if-not-is-word-byte.ensures))
+    sym (byte_passes c.args.bytes.now c.loop-byte.byte-index c.loop-byte-test.true (sym c.if-not-is_word_byte.ensures))
     ∙ c.loop-byte.invariant
 
 pub returns : goal.returns

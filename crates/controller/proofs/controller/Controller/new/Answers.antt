@@ -1,5 +1,5 @@
 use Rattle.std.proofs.Common.{ap₂}
-use Rattle.controller.specs.Record.{keeping, factory}
+use Rattle.controller.specs.Record.{keeping}
 use Rattle.controller.proofs.Answering.{every_list}
 use Rattle.controller.proofs.Ties.{new_accounts}
 use Rattle.controller.proofs.controller.Controller.new.Goals as goal

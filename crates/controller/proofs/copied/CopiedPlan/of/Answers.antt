@@ -4,8 +4,8 @@ use Rattle.controller.specs.Listed.{listed, fine}
 use Rattle.controller.specs.Listing.{Starts, length_listed_more, listed_mono, front_more, starts_more, starts_rise, starts_close, starts_inside, copy_means}
 use Rattle.controller.proofs.copied.CopiedPlan.of.Goals as goal
 
-pub append-moves-end-requires : goal.append-moves-end-requires
-append-moves-end-requires g c =
+pub append_moves-end-requires : goal.append_moves-end-requires
+append_moves-end-requires g c =
     let p = g.P.Process.meaning c.args.plan.now in
     let s = c.loop-s.s in
     let all = listed_mono p (s + 1) p.states (omega arith) in
@@ -15,10 +15,10 @@ pub loop-s-preserved : goal.loop-s-preserved
 loop-s-preserved g c =
     let p = g.P.Process.meaning c.args.plan.now in
     let s = c.loop-s.s in
-    let f = c.append-moves-end.ensures in
+    let f = c.append_moves-end.ensures in
     let L = g.met.P.Process.limits c.args.plan.now in
     let more = length_listed_more p s in
-    let end : c.append-moves-end.result ≡ length (listed p (s + 1)) = omega (arith, f.end, c.loop-s.invariant.2) in (
+    let end : c.append_moves-end.result ≡ length (listed p (s + 1)) = omega (arith, f.end, c.loop-s.invariant.2) in (
       omega (arith, c.loop-s.invariant.0),
       length-set c.loop-s.starts (s + 1) _ ∙ c.loop-s.invariant.1,
       end,
@@ -27,26 +27,21 @@ loop-s-preserved g c =
       f.fine c.loop-s.invariant.5,
     )
 
-pub invariant-of-result : goal.invariant-of-result
-invariant-of-result g c =
+pub invariant_of-result : goal.invariant_of-result
+invariant_of-result g c =
     let p = g.P.Process.meaning c.args.plan.now in
     let L = g.met.P.Process.limits c.args.plan.now in
     let n = c.states-states.result in
     let e : c.loop-s.s ≡ n = omega arith in
     let w : Starts p c.loop-s.starts n = λ t h. c.loop-s.invariant.4 t (omega arith) in
-    let few : length (listed p n) ≤ 256 = omega (arith, c.requires, ap (λ k. length (listed p k)) c.states-states.ensures) in (
-      omega (arith, L.some_state),
-      (
-        omega (arith, L.few_states),
-        (
-          ap (λ k. fine k c.loop-s.moves) c.states-states.ensures ∙ c.loop-s.invariant.5,
-          (
-            starts_rise p c.loop-s.starts n w,
-            (starts_close p L c.loop-s.starts n w, (starts_inside p c.loop-s.starts n few w, tt)),
-          ),
-        ),
-      ),
-    )
+    let few : length (listed p n) ≤ 256 = omega (arith, c.requires, ap (λ k. length (listed p k)) c.states-states.ensures) in record {
+      some = omega (arith, L.some_state);
+      few = omega (arith, L.few_states);
+      exist = ap (λ k. fine k c.loop-s.moves) c.states-states.ensures ∙ c.loop-s.invariant.5;
+      rising = starts_rise p c.loop-s.starts n w;
+      close = starts_close p L c.loop-s.starts n w;
+      inside = starts_inside p c.loop-s.starts n few w;
+    }
 
 pub returns : goal.returns
 returns g c =

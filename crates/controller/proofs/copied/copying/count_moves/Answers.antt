@@ -2,8 +2,8 @@ use Rattle.std.proofs.Common.{arith}
 use Rattle.controller.specs.Listing.{length_listed, length_listed_more}
 use Rattle.controller.proofs.copied.copying.count_moves.Goals as goal
 
-pub overflow-add-all : goal.overflow-add-all
-overflow-add-all g c =
+pub overflow_add-all : goal.overflow_add-all
+overflow_add-all g c =
     let p = g.P.Process.meaning c.args.plan.now in
     let L = g.met.P.Process.limits c.args.plan.now in
     omega (arith, length_listed p L c.loop-s.s, L.few_states, L.short_lists c.loop-s.s)

@@ -4,10 +4,10 @@ use Rattle.formtable.proofs.table.FormTable.vet.Goals as goal
 
 pub returns : goal.returns
 returns c =
-    let t = c.take-over.new.self in
+    let t = c.take_over.new.self in
     record {
-      answer = c.take-over.ensures.answer;
-      after = c.take-over.ensures.after;
+      answer = c.take_over.ensures.answer;
+      after = c.take_over.ensures.after;
       means = meant (contents t) t.passed;
       judged = judged c.args.raw.now;
     }

@@ -4,8 +4,8 @@ use Rattle.rowtable.specs.Grouped.{grouped}
 use Rattle.rowtable.proofs.Groups.{length_grouped, length_grouped_more, front_more, front_all, starts_more}
 use Rattle.rowtable.proofs.index.Index.of.Goals as goal
 
-pub append-moves-end-requires : goal.append-moves-end-requires
-append-moves-end-requires c =
+pub append_moves-end-requires : goal.append_moves-end-requires
+append_moves-end-requires c =
     let rs = c.args.rows.now in
     let more = length_grouped_more rs c.loop-s.s in
     let all = length_grouped (c.loop-s.s + 1) rs in
@@ -15,11 +15,11 @@ pub loop-s-preserved : goal.loop-s-preserved
 loop-s-preserved c =
     let rs = c.args.rows.now in
     let more = length_grouped_more rs c.loop-s.s in
-    let end : c.append-moves-end.result ≡ length (grouped rs (c.loop-s.s + 1)) = omega (arith, c.append-moves-end.ensures.end, c.loop-s.invariant.2) in (
+    let end : c.append_moves-end.result ≡ length (grouped rs (c.loop-s.s + 1)) = omega (arith, c.append_moves-end.ensures.end, c.loop-s.invariant.2) in (
       omega (arith, c.loop-s.invariant.0),
       length-set c.loop-s.starts (c.loop-s.s + 1) _ ∙ c.loop-s.invariant.1,
       end,
-      front_more rs c.loop-s.s _ _ c.loop-s.invariant.3 c.append-moves-end.ensures.moves,
+      front_more rs c.loop-s.s _ _ c.loop-s.invariant.3 c.append_moves-end.ensures.moves,
       starts_more c.loop-s.starts c.loop-s.s _ rs (omega (arith, c.loop-s.invariant.1)) c.loop-s.invariant.4 end,
     )
 

@@ -9,21 +9,21 @@ returns-then-s-self c =
     let t = c.args.self.now in
     record { moves = sym (no_moves t.states c.args.s (contents t).rows c.if-s-self.true (passed t).fine); short = omega arith }
 
-pub offset-bounds-self-from : goal.offset-bounds-self-from
-offset-bounds-self-from c =
+pub offset_bounds-self-from : goal.offset_bounds-self-from
+offset_bounds-self-from c =
     let t = c.args.self.now in
     let h = span (contents t).rows c.args.s _ _ c.start-from.ensures c.start-to.ensures in
     let v = passed t in
     omega (arith, h.0, h.1, v.short)
 
-pub slice-bounds-result-count-2 : goal.slice-bounds-result-count-2
-slice-bounds-result-count-2 c = (span (contents c.args.self.now).rows c.args.s _ _ c.start-from.ensures c.start-to.ensures).0
+pub slice_bounds-result-count-2 : goal.slice_bounds-result-count-2
+slice_bounds-result-count-2 c = (span (contents c.args.self.now).rows c.args.s _ _ c.start-from.ensures c.start-to.ensures).0
 
-pub slice-bounds-result-start-2 : goal.slice-bounds-result-start-2
-slice-bounds-result-start-2 c = (span (contents c.args.self.now).rows c.args.s _ _ c.start-from.ensures c.start-to.ensures).0
+pub slice_bounds-result-start-2 : goal.slice_bounds-result-start-2
+slice_bounds-result-start-2 c = (span (contents c.args.self.now).rows c.args.s _ _ c.start-from.ensures c.start-to.ensures).0
 
-pub slice-bounds-result-end-2 : goal.slice-bounds-result-end-2
-slice-bounds-result-end-2 c =
+pub slice_bounds-result-end-2 : goal.slice_bounds-result-end-2
+slice_bounds-result-end-2 c =
     let t = c.args.self.now in
     let h = span (contents t).rows c.args.s _ _ c.start-from.ensures c.start-to.ensures in
     le_trans h.1 (passed t).short
