@@ -1,7 +1,7 @@
 -- The look-ups by word and by motion.
 use Rattle.std.proofs.Common.{◌≡◌, ℕ, zero, suc, ◌+◌, ◌-◌, ◌<◌, Bool, true, false, cond, ◌&&◌, eqb, ltb, ◌⊎◌, List, [], ◌∷◌, map, length, get_or, IfSome, Some, None, Option, sym, refl, ap, ◌∙◌, subst, inl, inr, add-one, arith}
 use Rattle.std.specs.Option.{option_map}
-use Rattle.std.specs.List.{slice_get, AllByRecursion as All}
+use Rattle.std.specs.List.{slice_get, AllByRecursion}
 use Rattle.std.specs.Str.{bytes_eq}
 use Rattle.std.proofs.lemmas.Slice.Eq.{bytes_eq-Decides}
 use Rattle.std.proofs.lemmas.List.{get_or-map, length-map}
@@ -43,7 +43,7 @@ abbrev short : List (List ℕ) → Bool
 short [] = true
 short (w ∷ ws) = (ltb 0 (length w) && ltb (length w) 9) && short ws
 
-all_short : All (λ w. (0 < length w) × (length w < 9)) names
+all_short : AllByRecursion (λ w. (0 < length w) × (length w < 9)) names
 all_short =
     (Decides-by_and
     (λ w. ltb 0 (length w) && ltb (length w) 9)
@@ -56,7 +56,7 @@ all_short =
     ).0
     refl
 
-short_nth : (ws : List (List ℕ)) (i : ℕ) (w : List ℕ) → All (λ x. (0 < length x) × (length x < 9)) ws → slice_get ws i ≡ Some w → Short w
+short_nth : (ws : List (List ℕ)) (i : ℕ) (w : List ℕ) → AllByRecursion (λ x. (0 < length x) × (length x < 9)) ws → slice_get ws i ≡ Some w → Short w
 short_nth [] i w a e = absurd (none_some w e)
 short_nth (x ∷ xs) zero w a e = let same = ap length (some_same x w e) in (omega (arith, a.0.0), omega (arith, a.0.1))
 short_nth (x ∷ xs) (suc i) w a e = short_nth xs i w a.1 e

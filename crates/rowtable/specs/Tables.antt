@@ -1,7 +1,7 @@
 -- The moves that rows give, and the limits of a vetted table.
 use Rattle.std.specs.Prelude.{◌≡◌, ℕ, suc, ◌+◌, ◌<◌, ◌≤◌, Bool, true, false, cond, ◌&&◌, ◌⊎◌, List, [], ◌∷◌, ◌++◌, length, get_or, take, drop, Ok, ◌==◌, ◌≢◌, nat_le, nat_lt, slice_index_or, slice_set, refl}
 use Rattle.std.proofs.Common.{sym, ap, ◌∙◌, inl, inr, arith}
-use Rattle.std.specs.List.{AllByRecursion as All}
+use Rattle.std.specs.List.{AllByRecursion}
 use Rattle.std.proofs.lemmas.Bool.{eq-eqb, ne_eqb, ltb-true, leb-true, and_parts}
 use Rattle.std.proofs.lemmas.List.{at_drop_more, take_more, take_more_set}
 use Rattle.process.specs.Meaning.{HasMove, Limits}
@@ -28,7 +28,7 @@ pub record Fine (n : ℕ) (r : Transition) : Type 0 where
   pub to : r.to < n
   pub motion : r.motion ≤ 24
 
-pub fine_rows : (n : ℕ) (rs : List Transition) → ok_rows n rs ≡ true → All (Fine n) rs
+pub fine_rows : (n : ℕ) (rs : List Transition) → ok_rows n rs ≡ true → AllByRecursion (Fine n) rs
 fine_rows n [] e = tt
 fine_rows n (r ∷ rs) e =
     let h = and_parts (ok_row n r) (ok_rows n rs) e in
@@ -37,7 +37,7 @@ fine_rows n (r ∷ rs) e =
     (record { from = ltb-true _ _ f.0; to = ltb-true _ _ k.0; motion = leb-true _ _ k.1 }, fine_rows n rs h.1)
 
 -- each move of a state is by a known motion to a state that exists
-bounded : (n s a t : ℕ) (rs : List Transition) → All (Fine n) rs → HasMove (moves_of s rs) a t → (a ≤ 24) × (t < n)
+bounded : (n s a t : ℕ) (rs : List Transition) → AllByRecursion (Fine n) rs → HasMove (moves_of s rs) a t → (a ≤ 24) × (t < n)
 bounded n s a t [] f h = absurd h
 bounded n s a t (r ∷ rs) f h = go (r.from == s) (bounded n s a t rs f.1) h
   where
@@ -50,7 +50,7 @@ bounded n s a t (r ∷ rs) f h = go (r.from == s) (bounded n s a t rs f.1) h
     go false rest h = rest h
 
 -- a state that does not exist has no moves
-pub no_moves : (n s : ℕ) (rs : List Transition) → n ≤ s → All (Fine n) rs → moves_of s rs ≡ []
+pub no_moves : (n s : ℕ) (rs : List Transition) → n ≤ s → AllByRecursion (Fine n) rs → moves_of s rs ≡ []
 no_moves n s [] h f = refl
 no_moves n s (r ∷ rs) h f =
     let below : r.from < n = f.0.from in
@@ -61,7 +61,7 @@ pub record Valid (n : ℕ) (rs : List Transition) : Type 0 where
   pub some : 1 ≤ n
   pub few : n ≤ 64
   pub short : length rs ≤ 255
-  pub fine : All (Fine n) rs
+  pub fine : AllByRecursion (Fine n) rs
 
 -- a table that passes every test is so
 pub from_vetted : (n : ℕ) (rs : List Transition) → vetted n rs ≡ true → Valid n rs

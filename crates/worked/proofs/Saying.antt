@@ -1,6 +1,6 @@
 -- What a lane's answer says is so, and a table stands where its answers are the expected ones.
 use Rattle.std.proofs.Common.{◌≡◌, ℕ, List, [], ◌∷◌, map, length, Ok, Err, codes, Result, refl, subst}
-use Rattle.std.specs.List.{AllByRecursion as All}
+use Rattle.std.specs.List.{AllByRecursion}
 use Rattle.std.proofs.lemmas.List.{take_at}
 use Rattle.common.specs.declared.fault.Located.{Located}
 use Rattle.process.specs.Meaning.{Proc, Limits}
@@ -68,6 +68,6 @@ stands l e =
     }
 
 -- a table with the expected answers stands
-pub all_stand : (ls : List Lane) → map answer ls ≡ map (λ l. l.expected) ls → All Stands ls
+pub all_stand : (ls : List Lane) → map answer ls ≡ map (λ l. l.expected) ls → AllByRecursion Stands ls
 all_stand [] e = tt
 all_stand (l ∷ ls) e = (stands l (cc), all_stand ls (cc))

@@ -1,6 +1,6 @@
 -- The worked lanes.
 use Rattle.std.specs.Prelude.{ℕ, List, [], ◌∷◌}
-use Rattle.std.specs.List.{AllByRecursion as All}
+use Rattle.std.specs.List.{AllByRecursion}
 use Rattle.formtable.specs.Examples.{silent_loop}
 use Rattle.gate.specs.Gate.{accepted}
 use Rattle.bench.specs.Permit.{bench_table}
@@ -66,4 +66,4 @@ lanes =
 
 -- every lane of the table stands
 abbrev pub LanesStand : Type 0
-LanesStand = All Stands lanes
+LanesStand = AllByRecursion Stands lanes
