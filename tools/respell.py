@@ -27,7 +27,7 @@ CHOSEN = {
 
 # Names that the pattern below does not see: declared over several lines, brought in under another name, or local.
 MORE = """strayAt anAdmit aStart aRest aRelease aFailed aDone termSize shownWith rowsMeaning offersOf offersFrom idleProc
-    formsMeaning allowedRecord nAt nAfter""".split()
+    formsMeaning allowedRecord moves-answered""".split()
 
 
 def texts(*patterns):

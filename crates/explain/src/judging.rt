@@ -112,9 +112,9 @@ fn tell_beyond<Q: Process>(
     print!(rt; " is beyond the permit. A shortest order that the permit lacks:")?;
     show_motions(rt, shown)?;
     if before.is_empty() {
-        print!(rt; "\n_at the start the permit allows")?;
+        print!(rt; "\nAt the start the permit allows")?;
     } else {
-        print!(rt; "\n_after")?;
+        print!(rt; "\nAfter")?;
         show_motions(rt, before)?;
         print!(rt; " the permit allows")?;
     }

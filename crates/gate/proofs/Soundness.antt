@@ -23,7 +23,7 @@ module _ (F : Follow) (A : AfterLaws F) (plan permit : Proc) (L : Limits plan) (
           some_state = λ r m. (all r m).some_state;
           sets_fit = λ r m. (all r m).set_fits;
           start_row = (start_decides F A plan permit M rows all).0 P.formed.start;
-          moves-answered = every (covered F plan permit rows) (RowAnswered F plan permit rows) (covered_decides F plan permit L rows) 0 rows P.cover;
+          moves_answered = every (covered F plan permit rows) (RowAnswered F plan permit rows) (covered_decides F plan permit L rows) 0 rows P.cover;
         };
       }
     where
@@ -38,7 +38,7 @@ module _ (F : Follow) (A : AfterLaws F) (plan permit : Proc) (L : Limits plan) (
           fit = none_fails (fits plan permit) (RowFits plan permit) (fits_decides plan permit) 0 rows all;
           start = (start_decides F A plan permit M rows all).1 C.justifies.start_row;
         };
-        cover = none_fails (covered F plan permit rows) (RowAnswered F plan permit rows) (covered_decides F plan permit L rows) 0 rows C.justifies.moves-answered;
+        cover = none_fails (covered F plan permit rows) (RowAnswered F plan permit rows) (covered_decides F plan permit L rows) 0 rows C.justifies.moves_answered;
       }
     where
       all : AllFit plan permit rows
@@ -56,7 +56,7 @@ module _ (F : Follow) (A : AfterLaws F) (plan permit : Proc) (M : Limits permit)
   simulates nothing r m before = let t = J.some_state r m in (t.0, t.0, t.1, nothing)
   simulates (silent h q) r m before = simulates q r m (run_append before (silent h nothing))
   simulates (motion {s = s} {t = t} {a = a} {w = w} l h q) r m before =
-      onward (J.moves-answered r m s a t before l h) (λ q' m' b. simulates q q' m' b)
+      onward (J.moves_answered r m s a t before l h) (λ q' m' b. simulates q q' m' b)
     where
       onward : HasAnswer F permit rows r.set.bits a t
           → ((q' : Row) → Member q' rows → Run plan q'.state [] t → (y e' : ℕ) × In q'.set.bits y × Run permit y w e')

@@ -94,7 +94,7 @@ pub record Justifies (F : Follow) (plan permit : Proc) (rows : List Row) : Type 
   -- some row has state 0 and a set within the start set
   pub start_row : (r : Row) × Member r rows × (r.state ≡ 0) × Within r.set.bits (F.start permit)
   -- each motion that the state of a row offers leads to the state of a row whose set lies within After
-  pub moves-answered :
+  pub moves_answered :
       (r : Row) → Member r rows → (v a u : ℕ) → Run plan r.state [] v → 1 ≤ a → Steps plan v a u
       → (q : Row) × Member q rows × (q.state ≡ u) × Within q.set.bits (F.after permit r.set.bits a)
 

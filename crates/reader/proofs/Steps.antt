@@ -13,7 +13,7 @@ use Rattle.reader.specs.declared.heads.Shape.TheVariants.{End, Do, Tau, Or, Rec,
 use Rattle.reader.specs.declared.starts.Start.{Start}
 use Rattle.reader.specs.Tokens.{fault_at, bind, next_tok, closes, words}
 use Rattle.reader.specs.Reading.{Bound, binds, Outcome, shut, head_at, motion_at, go_target_at, body, step, term_at, reached_at, past_close, put, Reads}
-use Rattle.reader.specs.Starts.{Follow, none, one, two, Begun, first_of, start_at, follow_of, began}
+use Rattle.reader.specs.Starts.{Follow, none, one, two, Begun, begun_with, start_at, follow_of, began}
 
 -- below 64 forms there is fuel left
 pub unroll : (n p : ℕ) → 64 ≤ n + p → p < 64 → (s : List ℕ) (cap : ℕ) → (m : ℕ) × ((at : ℕ) (env : List Bound) (g : ℕ) → term_at n s cap at p env g ≡ step s cap (term_at m s cap) at p env g) × (64 ≤ m + (p + 1))
@@ -99,8 +99,8 @@ abbrev pub rest : List ℕ → (ℕ → ℕ → List Bound → ℕ → Outcome) 
 rest s inner p env g t = rest_by s inner p env g t.line t.after t.follow
 
 -- the first words that were read, by what follows them
-pub followed : (s : List ℕ) (x : Result Begun (Located TextFault)) (t : Start) (k : Inner) → x ≡ Ok (began s t) → t.inner ≡ k → x ≡ Ok (first_of t.line t.at (follow_of s k))
-followed s x t k e i = e ∙ ap (λ z. Ok (first_of t.line t.at (follow_of s z))) i
+pub followed : (s : List ℕ) (x : Result Begun (Located TextFault)) (t : Start) (k : Inner) → x ≡ Ok (began s t) → t.inner ≡ k → x ≡ Ok (begun_with t.line t.at (follow_of s k))
+followed s x t k e i = e ∙ ap (λ z. Ok (begun_with t.line t.at (follow_of s z))) i
 
 bind_ok : {A B C : Type 0} (x : Result A (Located TextFault)) (k : A → B) (j : B → Result C (Located TextFault)) → bind x (λ a. j (k a)) ≡ bind (bind x (λ a. Ok (k a))) j
 bind_ok (Ok a) k j = refl
@@ -108,11 +108,11 @@ bind_ok (Err f) k j = refl
 
 body_is : (s : List ℕ) (inner : ℕ → ℕ → List Bound → ℕ → Outcome) (p : ℕ) (env : List Bound) (g a : ℕ) (sh : Shape) → body s inner p env g a sh ≡ bind (start_at s p env g a sh) (rest s inner p env g)
 body_is s inner p env g a End = refl
-body_is s inner p env g a Do = bind_ok (motion_at s a) (λ m. first_of (row 1 m.0) m.1 (one env p)) (rest s inner p env g)
+body_is s inner p env g a Do = bind_ok (motion_at s a) (λ m. begun_with (row 1 m.0) m.1 (one env p)) (rest s inner p env g)
 body_is s inner p env g a Tau = refl
 body_is s inner p env g a Or = refl
-body_is s inner p env g a Rec = bind_ok (words (next_tok s a)) (λ w. first_of (row 4 0) (next_tok s a).after (one (binds w p ∷ env) g)) (rest s inner p env g)
-body_is s inner p env g a Go = bind_ok (go_target_at s env g a) (λ k. first_of (row 5 k.0) k.1 none) (rest s inner p env g)
+body_is s inner p env g a Rec = bind_ok (words (next_tok s a)) (λ w. begun_with (row 4 0) (next_tok s a).after (one (binds w p ∷ env) g)) (rest s inner p env g)
+body_is s inner p env g a Go = bind_ok (go_target_at s env g a) (λ k. begun_with (row 5 k.0) k.1 none) (rest s inner p env g)
 
 module _ (s : List ℕ) (cap at p : ℕ) (env : List Bound) (g : ℕ) (xs : List Record) where
   pub head_broke : {hr : Result (Shape × ℕ) (Located TextFault)} {f : Located TextFault} (ys : List Record) → hr ≡ head_at s cap at p → hr ≡ Err f → (n : ℕ) → 64 ≤ n + p → Reads (term_at n s cap at p env g) p xs (Err f) ys

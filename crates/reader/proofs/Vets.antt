@@ -13,7 +13,7 @@ use Rattle.formtable.specs.Vet.{allowed, all_allowed, is_at, bound_by, guards, g
 use Rattle.formtable.specs.Loops.{some_holds, each_all}
 use Rattle.motions.specs.Naming.{names, motion_of, place_of}
 use Rattle.motions.proofs.Lookups.{one_to_one}
-use Rattle.common.specs.First.{first as first_of}
+use Rattle.common.specs.First.{first as first_where}
 use Rattle.formtable.specs.Laid.{some_inj, none_some}
 use Rattle.reader.specs.Reading.{Bound, binds, lookup}
 use Rattle.reader.specs.Plans.{Tree, stop, act, tau, or, loop, again, size, flatten, Good}
@@ -22,7 +22,7 @@ use Rattle.reader.proofs.Tables.{length_flatten, Holds, first, next, front, righ
 -- kinds and arguments
 
 -- the motion of a name is one of the 24
-within : (test : List ℕ → Bool) (xs : List (List ℕ)) (i : ℕ) → first_of test xs ≡ Some i → i < length xs
+within : (test : List ℕ → Bool) (xs : List (List ℕ)) (i : ℕ) → first_where test xs ≡ Some i → i < length xs
 within test [] i e = absurd (none_some e)
 within test (x ∷ xs) i e = pick (test x) e (within test xs)
   where
@@ -30,9 +30,9 @@ within test (x ∷ xs) i e = pick (test x) e (within test xs)
     more None e h = absurd (none_some e)
     more (Some j) e h = let q = some_inj e in omega (arith, h j refl)
 
-    pick : (c : Bool) → cond c (Some 0) (option_map suc (first_of test xs)) ≡ Some i → ((j : ℕ) → first_of test xs ≡ Some j → j < length xs) → i < suc (length xs)
+    pick : (c : Bool) → cond c (Some 0) (option_map suc (first_where test xs)) ≡ Some i → ((j : ℕ) → first_where test xs ≡ Some j → j < length xs) → i < suc (length xs)
     pick true e h = let q = some_inj e in omega arith
-    pick false e h = more (first_of test xs) e h
+    pick false e h = more (first_where test xs) e h
 
 pub known : (w : List ℕ) (m : ℕ) → motion_of w ≡ Some m → (0 < m) × (m ≤ 24)
 known w m e = by (place_of w) refl e

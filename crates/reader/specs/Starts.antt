@@ -24,17 +24,17 @@ pub record Begun : Type 0 where
   pub after : ℕ
   pub follow : Follow
 
-abbrev pub first_of : Record → ℕ → Follow → Begun
-first_of r a k = record { line = r; after = a; follow = k }
+abbrev pub begun_with : Record → ℕ → Follow → Begun
+begun_with r a k = record { line = r; after = a; follow = k }
 
 -- what follows the form word of the form at p
 abbrev pub start_at : List ℕ → ℕ → List Bound → ℕ → ℕ → Shape → Result Begun (Located TextFault)
-start_at s p env g at End = Ok (first_of (row 0 0) at none)
-start_at s p env g at Do = bind (motion_at s at) (λ m. Ok (first_of (row 1 m.0) m.1 (one env p)))
-start_at s p env g at Tau = Ok (first_of (row 2 0) at (one env g))
-start_at s p env g at Or = Ok (first_of (row 3 0) at two)
-start_at s p env g at Rec = bind (words (next_tok s at)) (λ w. Ok (first_of (row 4 0) (next_tok s at).after (one (binds w p ∷ env) g)))
-start_at s p env g at Go = bind (go_target_at s env g at) (λ k. Ok (first_of (row 5 k.0) k.1 none))
+start_at s p env g at End = Ok (begun_with (row 0 0) at none)
+start_at s p env g at Do = bind (motion_at s at) (λ m. Ok (begun_with (row 1 m.0) m.1 (one env p)))
+start_at s p env g at Tau = Ok (begun_with (row 2 0) at (one env g))
+start_at s p env g at Or = Ok (begun_with (row 3 0) at two)
+start_at s p env g at Rec = bind (words (next_tok s at)) (λ w. Ok (begun_with (row 4 0) (next_tok s at).after (one (binds w p ∷ env) g)))
+start_at s p env g at Go = bind (go_target_at s env g at) (λ k. Ok (begun_with (row 5 k.0) k.1 none))
 
 abbrev pub follow_of : List ℕ → Inner → Follow
 follow_of s Nothing = none
@@ -43,7 +43,7 @@ follow_of s Two = two
 
 -- the code's answer in these words
 abbrev pub began : List ℕ → Start → Begun
-began s t = first_of t.line t.at (follow_of s t.inner)
+began s t = begun_with t.line t.at (follow_of s t.inner)
 
 -- a scope that fits a form at n
 abbrev pub Within : ℕ → Inner → Type 0

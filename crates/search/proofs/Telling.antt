@@ -70,7 +70,7 @@ module _ (F : Follow) (A : AfterLaws F) (plan permit : Proc) (L : Limits plan) (
         some_state = λ r m. let k = member_at rows r m in some_in r.set.bits (I.alive k.0 r k.1);
         sets_fit = λ r m. let k = member_at rows r m in way_fits A M (I.ways k.0 r k.1).1;
         start_row = (row0 (F.start permit), at_member rows 0 (row0 (F.start permit)) I.first, refl, λ t i. i);
-        moves-answered = λ r m v a u run l h.
+        moves_answered = λ r m v a u run l h.
             let k = member_at rows r m in
             let n = at_below rows k.0 r k.1 in
             let f = I.worked k.0 r (omega arith) k.1 v a u run l h in
