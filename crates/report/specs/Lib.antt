@@ -1,2 +1,6 @@
 pub mod Lines
 pub mod Leaves
+pub mod Finding
+pub mod Exactly
+pub mod Outcomes
+pub mod Says

@@ -1,14 +1,20 @@
-use Rattle.std.proofs.Common.{◌≡◌, ℕ, ◌-◌, ◌≤◌, length, take, drop, replicate, sym, ap, ◌∙◌, arith}
-use Rattle.std.proofs.lemmas.List.{drop_at, length-take-le}
+use Rattle.std.proofs.Common.{length}
+use Rattle.common.specs.Faults.{numbered}
+use Rattle.writing.specs.Faults.{output_number}
+use Rattle.report.specs.Finding.{found}
+use Rattle.report.proofs.Saying.{reports}
 use Rattle.report.proofs.outcome.report.Goals as goal
 
-pub returns-in-Ok : goal.returns-in-Ok
-returns-in-Ok g c =
-    let n = c.in-Ok.count in
-    let mid = c.put_outcome.new.out in
-    let kept : length c.clear_from.new.out ≡ length mid = c.clear_from.auto.out in
-    let few : n ≤ length mid = omega (arith, c.in-Ok.ensures.1, c.put_outcome.auto.out) in (
-      omega arith,
-      ap (drop n) c.clear_from.ensures ∙ drop_at (take n mid) (replicate (length mid - n) 0) n (length-take-le n mid few)
-          ∙ ap (λ (k : ℕ). replicate (k - n) 0) (sym kept),
-    )
+pub returns : goal.returns
+returns g c =
+    let permit = g.Q.Process.meaning c.args.permit.now in
+    let cap = length c.args.records.now in
+    let x = c.report_exactly.ensures in
+    record {
+      leaves = x.leaves;
+      exact = x.exact;
+      says =
+          reports permit c.args.text.now cap (length c.args.out.now)
+          (found permit c.args.text.now cap (length c.args.rows.now) (length c.args.motions.now))
+          (numbered output_number c.report_exactly.result) c.report_exactly.new.out x.told x.exact.answer_is x.exact.out_is;
+    }

@@ -1,0 +1,3 @@
+pub mod Findings
+pub mod Texts
+pub mod Saying
