@@ -1,1 +1,4 @@
 pub mod Carry
+pub mod Chain
+pub mod Computed
+pub mod History

@@ -1,20 +1,20 @@
 // The controller's calls as steps of a task.
-ghost use Rattle.std.specs.Prelude.{◌≡◌, [], ◌∷◌};
+ghost use Rattle.std.specs.Prelude.{◌≡◌};
 ghost use Rattle.controller.specs.Answers.{plain_told, admit_told};
-ghost use Rattle.controller.specs.Histories.{Call};
-ghost use Rattle.controller.specs.Histories.Call.{admit as an_admit};
+ghost use Rattle.controller.specs.Histories.Call.{admit as an_admit, start as a_start, done as a_done, failed as a_failed, rest as a_rest};
 ghost use Rattle.controller.specs.View.{view};
-ghost use Rattle.task.specs.Steps.{answer_of, Steps};
+ghost use Rattle.task.specs.declared.step.Asked.TheVariants.{Start, Done, Failed, Rest};
+ghost use Rattle.task.specs.Steps.{reply_of, Makes, number_of, Releases, HandsBack};
 
 use crate::step::{Asked, Reply, Step};
 use certificate::Row;
 use common::{Located, Numbered};
-use controller::{AdmitFault, Controller, DriverFault};
+use controller::{AdmitFault, Controller, DriverFault, Slip};
 use process::Process;
 
 // A driver's answer as a reply.
 fn plain(r: Result<(), DriverFault>) -> Reply
-    ensures { answer_of result ≡ plain_told r }
+    ensures { result ≡ reply_of (plain_told r) }
 {
     match r {
         Ok(()) => Reply::Granted(0),
@@ -24,7 +24,7 @@ fn plain(r: Result<(), DriverFault>) -> Reply
 
 // An admission's answer as a reply.
 fn placed(r: Result<(), Located<AdmitFault>>) -> Reply
-    ensures { answer_of result ≡ admit_told r }
+    ensures { result ≡ reply_of (admit_told r) }
 {
     match r {
         Ok(()) => Reply::Granted(0),
@@ -32,35 +32,23 @@ fn placed(r: Result<(), Located<AdmitFault>>) -> Reply
     }
 }
 
-// Admits the first plan.
-pub(crate) fn admit_first<P: Process, Q: Process>(
+// Admits a plan; `asked` says which one.
+pub(crate) fn admit<P: Process, Q: Process>(
     c: &mut Controller,
+    asked: Asked,
     plan: &P,
     permit: &Q,
     rows: &[Row],
 ) -> Step
-    ensures { (b : Call) → Steps (an_admit (P.meaning plan.now) (Q.meaning permit.now) rows.now) b (view c.old) (result ∷ []) (view c.new) }
+    ensures { Makes asked (an_admit (P.meaning plan.now) (Q.meaning permit.now) rows.now) (view c.old) result (view c.new) }
 {
     let told = c.admit(plan, permit, rows);
-    Step::Made(Asked::AdmitFirst, placed(told))
-}
-
-// Admits the second plan.
-pub(crate) fn admit_second<P: Process, Q: Process>(
-    c: &mut Controller,
-    plan: &P,
-    permit: &Q,
-    rows: &[Row],
-) -> Step
-    ensures { (a : Call) → Steps a (an_admit (P.meaning plan.now) (Q.meaning permit.now) rows.now) (view c.old) (result ∷ []) (view c.new) }
-{
-    let told = c.admit(plan, permit, rows);
-    Step::Made(Asked::AdmitSecond, placed(told))
+    Step::Made(asked, placed(told))
 }
 
 // Starts a run.
 pub(crate) fn start(c: &mut Controller) -> Step
-    ensures { (a b : Call) → Steps a b (view c.old) (result ∷ []) (view c.new) }
+    ensures { Makes Start a_start (view c.old) result (view c.new) }
 {
     let told = c.start();
     Step::Made(Asked::Start, plain(told))
@@ -68,78 +56,48 @@ pub(crate) fn start(c: &mut Controller) -> Step
 
 // Ends a run.
 pub(crate) fn rest(c: &mut Controller) -> Step
-    ensures { (a b : Call) → Steps a b (view c.old) (result ∷ []) (view c.new) }
+    ensures { Makes Rest a_rest (view c.old) result (view c.new) }
 {
     let told = c.rest();
     Step::Made(Asked::Rest, plain(told))
 }
 
-// Releases a motion, and says that it is done.
-pub(crate) fn release_done(c: &mut Controller, motion: u8) -> (Step, Step)
-    ensures { (a b : Call) → Steps a b (view c.old) (result.0 ∷ (result.1 ∷ [])) (view c.new) }
+// Releases a motion; the slip is there if it is granted.
+pub(crate) fn release(c: &mut Controller, motion: u8) -> (Step, Option<Slip>)
+    ensures { Releases motion (view c.old) result.0 (number_of result.1) (view c.new) }
 {
     match c.release(motion) {
         Ok(slip) => {
-            let number = slip.number();
-            let told = c.done(slip);
-            (
-                Step::Made(Asked::Release(motion), Reply::Granted(number)),
-                Step::Made(Asked::Done(number), plain(told)),
-            )
-        }
-        Err(fault) => (
-            Step::Made(Asked::Release(motion), Reply::Denied(fault.number(), 0)),
-            Step::LeftOut,
-        ),
-    }
-}
-
-// Releases a motion, and says that it failed.
-pub(crate) fn release_failed(c: &mut Controller, motion: u8) -> (Step, Step)
-    ensures { (a b : Call) → Steps a b (view c.old) (result.0 ∷ (result.1 ∷ [])) (view c.new) }
-{
-    match c.release(motion) {
-        Ok(slip) => {
-            let number = slip.number();
-            let told = c.failed(slip);
-            (
-                Step::Made(Asked::Release(motion), Reply::Granted(number)),
-                Step::Made(Asked::Failed(number), plain(told)),
-            )
-        }
-        Err(fault) => (
-            Step::Made(Asked::Release(motion), Reply::Denied(fault.number(), 0)),
-            Step::LeftOut,
-        ),
-    }
-}
-
-// Releases a motion, rests and starts again before its slip is handed back.
-pub(crate) fn release_over_rest(c: &mut Controller, motion: u8) -> (Step, Step, Step, Step)
-    ensures { (a b : Call) → Steps a b (view c.old) (result.0 ∷ (result.1 ∷ (result.2 ∷ (result.3 ∷ [])))) (view c.new) }
-{
-    match c.release(motion) {
-        Ok(slip) => {
-            let number = slip.number();
-            let rested = rest(c);
-            let started = start(c);
-            let told = c.done(slip);
-            (
-                Step::Made(Asked::Release(motion), Reply::Granted(number)),
-                rested,
-                started,
-                Step::Made(Asked::Done(number), plain(told)),
-            )
+            let reply = Reply::Granted(slip.number());
+            (Step::Made(Asked::Release(motion), reply), Some(slip))
         }
         Err(fault) => {
-            let rested = rest(c);
-            let started = start(c);
-            (
-                Step::Made(Asked::Release(motion), Reply::Denied(fault.number(), 0)),
-                rested,
-                started,
-                Step::LeftOut,
-            )
+            let reply = Reply::Denied(fault.number(), 0);
+            (Step::Made(Asked::Release(motion), reply), None)
         }
     }
+}
+
+// Says that the motion of the slip is done.
+pub(crate) fn done(c: &mut Controller, slip: Option<Slip>) -> Step
+    ensures { HandsBack Done a_done (number_of slip) (view c.old) result (view c.new) }
+{
+    let Some(slip) = slip else {
+        return Step::LeftOut;
+    };
+    let number = slip.number();
+    let told = c.done(slip);
+    Step::Made(Asked::Done(number), plain(told))
+}
+
+// Says that the motion of the slip failed.
+pub(crate) fn failed(c: &mut Controller, slip: Option<Slip>) -> Step
+    ensures { HandsBack Failed a_failed (number_of slip) (view c.old) result (view c.new) }
+{
+    let Some(slip) = slip else {
+        return Step::LeftOut;
+    };
+    let number = slip.number();
+    let told = c.failed(slip);
+    Step::Made(Asked::Failed(number), plain(told))
 }

@@ -3,6 +3,7 @@
 
 mod calls;
 mod judging;
+mod runs;
 mod step;
 mod whole;
 
