@@ -22,7 +22,7 @@ CHOSEN = {
     "by-class": "by_class_lettered", "closeOf": "closing_of", "guarded-at": "all_guarded_at", "is-at": "is_at_some",
     "is-do": "form_is_do", "isKnown": "is_known_motion", "is-rec": "form_is_rec", "letters-at": "letters_there",
     "motion-of": "motion_of_word", "moves-at": "moves_there", "pastBy": "past_with", "past-in": "past_in_flat",
-    "plan-of": "plan_of_text", "some-row": "any_row", "targetAt": "go_target_at", "work-moves": "moves_work",
+    "first_of": "begun_with", "plan-of": "plan_of_text", "some-row": "any_row", "targetAt": "go_target_at", "work-moves": "moves_work",
 }
 
 # Names that the pattern below does not see: declared over several lines, brought in under another name, or local.
