@@ -1,7 +1,7 @@
 #!/usr/bin/env python3
 """Brings the repository's own definitions and lemmas to one spelling: words in snake case, types in camel case.
 
-    tools/respell.py             changes specs/, proofs/, the ghost lines and clauses of src/, must-fail edits and docs
+    tools/respell.py             changes specs/, proofs/, src/ and must-fail edits, word by word, and docs between backquotes
     tools/respell.py --list      only prints the names, old and new, and those that would fall together
 
 Only names that specs/, proofs/ or a ghost member of src/ declare are respelled. Names that Rattle makes (goals,
@@ -9,7 +9,9 @@ invariants, branches) and names of the library stay as they are.
 """
 import collections
 import glob
+import os
 import re
+import subprocess
 import sys
 
 NAME = r"[A-Za-z][A-Za-z0-9_'\-]*"
@@ -20,7 +22,7 @@ MADE = re.compile(r"\b(goal|given|need)\.")
 # Names that would fall together with another, a definition and a lemma about it mostly.
 CHOSEN = {
     "by-class": "by_class_lettered", "closeOf": "closing_of", "guarded-at": "all_guarded_at", "is-at": "is_at_some",
-    "is-do": "form_is_do", "isKnown": "is_known_motion", "is-rec": "form_is_rec", "letters-at": "letters_there",
+    "is-do": "form_is_do", "isKnown": "is_known_motion", "is-rec": "form_is_rec", "letters-at": "letters_there", "stray-at": "stray_anywhere",
     "motion-of": "motion_of_word", "moves-at": "moves_there", "pastBy": "past_with", "past-in": "past_in_flat",
     "first_of": "begun_with", "plan-of": "plan_of_text", "some-row": "any_row", "targetAt": "go_target_at", "work-moves": "moves_work",
 }
@@ -65,8 +67,9 @@ def made():
 
 def library():
     names = set()
+    start = subprocess.run(["rt", "doc"], capture_output=True, text=True, check=True).stdout.strip()
     for top in ("std", "core", "std_alloc", "std_heap", "std_io", "std_collections", "io", "borrow", "logic", "antt"):
-        for path, text in texts("/opt/rattle/rattle/%s/**/*.antt" % top):
+        for path, text in texts(os.path.join(os.path.dirname(start), "rattle", top, "**", "*.antt")):
             names.update(re.findall(r"^\s*(?:(?:abbrev|unfoldable|pub|data|record)\s+)*(" + NAME + r")(?:\s+[({][^)}]*[)}])*\s*:\s", text, re.M))
     return names
 

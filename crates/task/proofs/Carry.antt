@@ -1,7 +1,9 @@
 -- Steps one after the other.
 use Rattle.std.proofs.Common.{◌≡◌, ℕ, zero, suc, List, [], ◌∷◌, ◌++◌, length, slice_index_or, refl, sym, ap, subst, subst₂, arith}
+use Rattle.process.specs.Meaning.{Proc}
+use Rattle.certificate.specs.declared.Row.{Row}
 use Rattle.controller.specs.Accounts.{Accounts}
-use Rattle.controller.specs.Histories.{Call, History}
+use Rattle.controller.specs.Histories.{Call, History, admit}
 use Rattle.controller.specs.Record.{Record}
 use Rattle.task.specs.declared.step.Step.{Step}
 use Rattle.task.specs.Steps.{stepped, through, Steps}
@@ -12,6 +14,11 @@ through_both a b (x ∷ xs) ys h = through_both a b xs ys (stepped a b x h)
 
 pub counts_both : (a b : Call) (xs ys : List Step) (c d e : Record) → Steps a b c xs d → Steps a b d ys e → Steps a b c (xs ++ ys) e
 counts_both a b xs ys c d e s t h A = subst (λ (g : History). Accounts g e) (sym (through_both a b xs ys h)) (t (through a b xs h) (s h A))
+
+-- the permit told in another form
+pub with_permit : (first second : Proc) (xs ys : List Row) (ss : List Step) (c : Record) (p q : Proc) → p ≡ q → Accounts (through (admit first p xs) (admit second p ys) ss []) c
+    → Accounts (through (admit first q xs) (admit second q ys) ss []) c
+with_permit first second xs ys ss c p q e h = subst (λ (z : Proc). Accounts (through (admit first z xs) (admit second z ys) ss []) c) e h
 
 -- a run that makes just those steps, between just those records
 pub run_made : (a b : Call) (xs ys : List Step) (c d e f : Record) → Steps a b c xs d → e ≡ c → ys ≡ xs → f ≡ d
