@@ -8,9 +8,12 @@ ghost use Rattle.certificate.specs.Rows.{empty_row, key_of};
 use common::{Keyed, find_first};
 use process::StateSet;
 
+// How many rows a certificate may have.
+pub const MAX_ROWS: usize = 1_024;
+
 // A row: a state of the plan, a set of the permit's states, and how the search came to it:
 // from the row `back`, by the motion `by`.
-#[derive(Clone, Copy, Debug)]
+#[derive(Clone, Copy, Debug, PartialEq, Eq)]
 pub struct Row {
     pub state: u8,
     pub set: StateSet,
@@ -25,7 +28,7 @@ impl Row {
     {
         Row {
             state: 0,
-            set: StateSet { bits: 0 },
+            set: StateSet::empty(),
             back: 0,
             by: 0,
         }
@@ -43,7 +46,7 @@ impl Keyed for Row {
     ghost by = { key_of };
 
     fn has_key(&self, key: &(u8, StateSet)) -> bool {
-        self.state == key.0 && self.set.bits == key.1.bits
+        (self.state, self.set) == *key
     }
 }
 

@@ -2,6 +2,8 @@
 ghost use Rattle.std.specs.Prelude.{◌≡◌, ℕ};
 ghost use Rattle.common.specs.Faults.{shown_by};
 
+use std::fmt;
+
 // A fault and the place where it was found: one way for every kind of fault.
 #[derive(Clone, Copy, Debug, PartialEq, Eq)]
 pub struct Located<F> {
@@ -15,6 +17,14 @@ impl<F> Located<F> {
         ensures { result ≡ record { fault = fault; place = place } }
     {
         Located { fault, place }
+    }
+
+    // The same as a fault of a wider kind, at its place.
+    pub fn lift<G: From<F>>(self) -> Located<G>
+        ensures fault { G.from_gives self.fault result.fault }
+        ensures place { result.place ≡ self.place }
+    {
+        Located::at(G::from(self.fault), self.place)
     }
 }
 
@@ -31,4 +41,11 @@ pub fn told<F: Numbered>(at: &Located<F>) -> (u8, usize)
     ensures { result ≡ shown_by F.number_of at.now }
 {
     (at.fault.number(), at.place)
+}
+
+impl<F: Numbered> fmt::Display for Located<F> {
+    fn fmt<W: fmt::Write>(&self, f: &mut fmt::Formatter<W>) -> fmt::Result {
+        let (number, place) = told(self);
+        write!(f, "{number} {place}")
+    }
 }

@@ -21,10 +21,5 @@ pub trait Keyed {
 pub fn find_first<R: Keyed>(records: &[R], key: &R::Key) -> Option<usize>
     ensures { FirstWith (λ x. R.by x ≡ R.meant key.now) records.now result }
 {
-    for (i, x) in records.iter().enumerate() {
-        if x.has_key(key) {
-            return Some(i);
-        }
-    }
-    None
+    records.iter().position(|x| x.has_key(key))
 }

@@ -1,2 +1,3 @@
 pub mod Bits
+pub mod Giving
 pub mod Members

@@ -1,10 +1,12 @@
 // Processes, and sets of their states.
 #![tactic(auto)]
 
+pub mod move_list;
 pub mod moves;
 pub mod process;
 pub mod sets;
 
-pub use moves::Move;
+pub use move_list::{MovesOf, moves_of};
+pub use moves::{LAST_MOTION, Move, SILENT};
 pub use process::Process;
-pub use sets::StateSet;
+pub use sets::{MAX_STATES, StateSet};

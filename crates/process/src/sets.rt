@@ -3,8 +3,8 @@ ghost use Rattle.std.specs.Prelude.{◌≡◌, ℕ, ◌==◌, bit_or};
 ghost use Rattle.process.specs.SetLaws.{SetLaws};
 ghost use Rattle.process.specs.Sets.{has, inserted, single, within};
 
-// How many states a set can have.
-const STATES: u8 = 64;
+// How many states a process, and so a set, can have.
+pub const MAX_STATES: u8 = 64;
 
 // A set of states: bit t for state t, bit 0 lowest.
 #[derive(Clone, Copy, Debug, PartialEq, Eq)]
@@ -16,7 +16,7 @@ pub struct StateSet {
 fn bit(bits: u64, t: u8) -> bool
     ensures { result ≡ has bits t }
 {
-    t < STATES && (bits >> t) % 2 == 1
+    t < MAX_STATES && (bits >> t) % 2 == 1
 }
 
 // The bits of either number.
@@ -52,7 +52,7 @@ impl StateSet {
     pub fn insert(self, t: u8) -> Self
         ensures { result.bits ≡ inserted self.bits t }
     {
-        if t < STATES {
+        if t < MAX_STATES {
             StateSet {
                 bits: self.bits | (1 << t),
             }
