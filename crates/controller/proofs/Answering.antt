@@ -1,6 +1,6 @@
 -- The rules give exactly one answer, and every list of calls exactly one lawful history.
 use Rattle.std.proofs.Common.{◌≡◌, ℕ, ◌+◌, ◌<◌, ◌≤◌, ltb, ◌⊎◌, List, [], ◌∷◌, sym, refl, ap, ◌∙◌, subst, inl, inr, arith}
-use Rattle.std.proofs.lemmas.Bool.{ltb-true, ltb-false}
+use Rattle.std.proofs.lemmas.Bool.{ltb-true, ltb-false, cond_both}
 use Rattle.process.specs.Meaning.{Proc}
 use Rattle.certificate.specs.declared.Row.{Row}
 use Rattle.gate.specs.Follow.{plain}
@@ -8,12 +8,11 @@ use Rattle.gate.specs.Gate.{Verdict, gate}
 use Rattle.controller.specs.declared.fault.DriverFault.TheVariants.{RunOn, TooManyMoves, NoRun, UnknownMotion, StillWaiting, StaleSlip, NoNumberLeft, NotAllowed}
 use Rattle.controller.specs.declared.run.Stage.{Stage}
 use Rattle.controller.specs.declared.run.Stage.TheVariants.{Bare, Ready, Running, Waiting}
-use Rattle.controller.specs.Listed.{moves_in_all}
+use Rattle.movetable.specs.Lists.{moves_in_all}
 use Rattle.controller.specs.Histories.{Call, admit, start, release, done, failed, rest, Answer, granted, driver, event, History, calls, phase, releases}
 use Rattle.controller.specs.Rules.{On, Off, Known, Allowed, Awaited, Rule, admit_on, admit_refused, admit_many, admit_granted, start_bare, start_on, start_granted, release_off, release_waiting, release_unknown, release_beyond, release_spent, release_granted, done_stale, done_granted, failed_stale, failed_granted, rest_off, rest_granted, Lawful, fresh, more, All, Bounded}
 use Rattle.controller.specs.Record.{judged, answer}
 use Rattle.controller.specs.Whole.{OneHistory, EveryList}
-use Rattle.controller.proofs.Follows.{pick}
 use Rattle.controller.proofs.Lawfuls.{safe, fair}
 use Rattle.controller.proofs.Slips.{slips_once}
 use Rattle.controller.proofs.Ties.{record_of, answer_rule}
@@ -58,17 +57,6 @@ from_running e = subst On (sym e) tt
 from_waiting : {s : Stage} → s ≡ Waiting → On s
 from_waiting e = subst On (sym e) tt
 
--- the first of two phases that a controller can be told apart by
-abbrev First : Stage → Type 0
-First Bare = Unit {0}
-First Ready = ⊥
-First Running = ⊥
-First Waiting = Unit {0}
-
-apart : (s : Stage) → First s → (s ≡ Ready) ⊎ (s ≡ Running) → ⊥
-apart s f (inl e) = subst First e f
-apart s f (inr e) = subst First e f
-
 -- the rules of each call as forks
 
 abbrev AdmitTree : History → Proc → Proc → List Row → Answer → Type 0
@@ -80,13 +68,13 @@ admit_tree {plan = plan} (admit_refused o e) = inr (o, sym (ap (λ (v : Verdict)
 admit_tree {plan = plan} (admit_many o e l) =
     inr (
       o,
-      pick (ltb 256 (moves_in_all plan)) (driver TooManyMoves) (granted 0) (λ z. driver TooManyMoves ≡ z) (λ t. refl)
+      cond_both (ltb 256 (moves_in_all plan)) (driver TooManyMoves) (granted 0) (λ z. driver TooManyMoves ≡ z) (λ t. refl)
           (λ t. let l' = ltb-false 256 (moves_in_all plan) t in absurd (omega arith)) ∙ sym (ap (λ (v : Verdict). judged v (moves_in_all plan)) e),
     )
 admit_tree {plan = plan} (admit_granted o e l) =
     inr (
       o,
-      pick (ltb 256 (moves_in_all plan)) (driver TooManyMoves) (granted 0) (λ z. granted 0 ≡ z)
+      cond_both (ltb 256 (moves_in_all plan)) (driver TooManyMoves) (granted 0) (λ z. granted 0 ≡ z)
           (λ t. let l' = ltb-true 256 (moves_in_all plan) t in absurd (omega arith)) (λ t. refl) ∙ sym (ap (λ (v : Verdict). judged v (moves_in_all plan)) e),
     )
 
@@ -141,7 +129,7 @@ rest_tree (rest_granted o) = inr (o, refl)
 one_start : (h : History) → One (StartTree h)
 one_start h =
     one_fork (On (phase h)) (Off (phase h)) _ _ (on_off (phase h)) (one_is (driver RunOn))
-    (one_fork (phase h ≡ Bare) (phase h ≡ Ready) _ _ (λ e f. apart (phase h) (subst First (sym e) tt) (inl f)) (one_is (driver NoRun)) (one_is (granted 0)))
+    (one_fork (phase h ≡ Bare) (phase h ≡ Ready) _ _ (λ e f. cc) (one_is (driver NoRun)) (one_is (granted 0)))
 
 one_run : (h : History) (m : ℕ) → One (RunTree h m)
 one_run h m =
@@ -152,7 +140,7 @@ one_run h m =
 one_release : (h : History) (m : ℕ) → One (ReleaseTree h m)
 one_release h m =
     one_fork (Off (phase h)) (On (phase h)) _ _ (λ f o. on_off (phase h) o f) (one_is (driver NoRun))
-    (one_fork (phase h ≡ Waiting) (phase h ≡ Running) _ _ (λ e f. apart (phase h) (subst First (sym e) tt) (inr f)) (one_is (driver StillWaiting)) (one_run h m))
+    (one_fork (phase h ≡ Waiting) (phase h ≡ Running) _ _ (λ e f. cc) (one_is (driver StillWaiting)) (one_run h m))
 
 one_slip : (h : History) (k : ℕ) → One (SlipTree h k)
 one_slip h k = one_fork (Awaited h k → ⊥) (Awaited h k) _ _ (λ n w. n w) (one_is (driver StaleSlip)) (one_is (granted 0))
@@ -174,27 +162,13 @@ one_answer h rest a b r s =
 some_answer : (h : History) (k : Call) → Lawful h → All Bounded (calls h) → (a : Answer) × Rule h k a
 some_answer h k L b = (answer (record_of h) k, answer_rule h L b k)
 
--- lists of calls
-
-abbrev head_or : Call → List Call → Call
-head_or k [] = k
-head_or k (j ∷ js) = j
-
-abbrev tail_of : List Call → List Call
-tail_of [] = []
-tail_of (j ∷ js) = js
-
-abbrev Empty : List Call → Type 0
-Empty [] = Unit {0}
-Empty (j ∷ js) = ⊥
-
 same_history : (g h : History) → Lawful g → Lawful h → calls g ≡ calls h → g ≡ h
 same_history [] [] L M e = refl
-same_history [] (event k b ∷ h) L M e = absurd (subst Empty e tt)
-same_history (event j a ∷ g) [] L M e = absurd (subst Empty (sym e) tt)
+same_history [] (event k b ∷ h) L M e = cc
+same_history (event j a ∷ g) [] L M e = cc
 same_history (event j a ∷ g) (event k b ∷ h) (more L r) (more M s) e =
-    let gh : g ≡ h = same_history g h L M (ap tail_of e) in
-    let jk : j ≡ k = ap (head_or j) e in
+    let gh : g ≡ h = same_history g h L M (cc) in
+    let jk : j ≡ k = cc in
     let ab : a ≡ b = one_answer h k a b (subst (λ (x : Call). Rule h x a) jk (subst (λ (x : History). Rule x j a) gh r)) s in
     λ i. event (jk i) (ab i) ∷ gh i
 

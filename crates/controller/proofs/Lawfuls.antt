@@ -1,17 +1,17 @@
 -- What holds of lawful histories.
-use Rattle.std.proofs.Common.{◌≡◌, ℕ, ◌<◌, ◌≤◌, ◌↔◌, List, [], ◌∷◌, ◌++◌, sym, refl, ◌∙◌, subst, arith}
+use Rattle.std.proofs.Common.{◌≡◌, ℕ, ◌<◌, ◌≤◌, ◌↔◌, List, [], ◌∷◌, ◌++◌, sym, refl, subst, arith}
 use Rattle.process.specs.Meaning.{Proc, Limits}
 use Rattle.process.specs.Runs.{Run, nothing, silent, motion, Trace}
+use Rattle.reach.specs.Reach.{NoneSilent}
+use Rattle.reach.proofs.Follows.{none_silent_push}
 use Rattle.certificate.specs.declared.Row.{Row}
 use Rattle.gate.specs.Follow.{plain}
 use Rattle.gate.specs.Gate.{gate, accepted}
 use Rattle.gate.proofs.Plain.{plain_holds}
-use Rattle.controller.specs.declared.run.Stage.{Stage}
-use Rattle.controller.specs.declared.run.Stage.TheVariants.{Bare, Ready, Running, Waiting}
+use Rattle.controller.specs.declared.run.Stage.TheVariants.{Running}
 use Rattle.controller.specs.Histories.{idle, Call, admit, start, release, done, failed, rest, Answer, granted, denied, event, History, calls, phase, released, releases, last_plan, under, began}
 use Rattle.controller.specs.Rules.{On, Off, Known, Allowed, Awaited, Rule, admit_granted, release_off, release_waiting, release_unknown, release_beyond, release_spent, release_granted, done_granted, Lawful, more, All, Bounded, Brings, IsGrant}
 use Rattle.controller.specs.Whole.{Permitted, JustAllowed}
-use Rattle.controller.proofs.Follows.{Loud, loud_push}
 
 -- what a granted call says of the history before it
 
@@ -51,15 +51,15 @@ plan_limits (event rest (granted n) ∷ h) w = plan_limits h w.1
 
 -- released motions are not silent
 
-pub released_loud : (h : History) → Lawful h → Loud (released h)
-released_loud [] L = tt
-released_loud (event k (denied n i) ∷ h) (more L r) = released_loud h L
-released_loud (event (admit plan permit rows) (granted n) ∷ h) (more L r) = released_loud h L
-released_loud (event start (granted n) ∷ h) (more L r) = tt
-released_loud (event (release m) (granted n) ∷ h) (more L r) = loud_push (released h) m (released_loud h L) (granted_release r).1.0
-released_loud (event (done k) (granted n) ∷ h) (more L r) = released_loud h L
-released_loud (event (failed k) (granted n) ∷ h) (more L r) = released_loud h L
-released_loud (event rest (granted n) ∷ h) (more L r) = released_loud h L
+pub released_none_silent : (h : History) → Lawful h → NoneSilent (released h)
+released_none_silent [] L = tt
+released_none_silent (event k (denied n i) ∷ h) (more L r) = released_none_silent h L
+released_none_silent (event (admit plan permit rows) (granted n) ∷ h) (more L r) = released_none_silent h L
+released_none_silent (event start (granted n) ∷ h) (more L r) = tt
+released_none_silent (event (release m) (granted n) ∷ h) (more L r) = none_silent_push (released h) m (released_none_silent h L) (granted_release r).1.0
+released_none_silent (event (done k) (granted n) ∷ h) (more L r) = released_none_silent h L
+released_none_silent (event (failed k) (granted n) ∷ h) (more L r) = released_none_silent h L
+released_none_silent (event rest (granted n) ∷ h) (more L r) = released_none_silent h L
 
 -- no more releases are granted than there are numbers
 
@@ -117,16 +117,10 @@ safe (event rest (granted n) ∷ h) (more L r) b Q q = safe h L b.1 Q q.1
 
 -- while Running, a known motion is released exactly when it is allowed
 
-abbrev IsRunning : Stage → Type 0
-IsRunning Bare = ⊥
-IsRunning Ready = ⊥
-IsRunning Running = Unit {0}
-IsRunning Waiting = ⊥
-
 fair_release : {h : History} {m : ℕ} {a : Answer} → phase h ≡ Running → releases h < 4294967295 → Known m → Rule h (release m) a
     → IsGrant a ↔ Allowed h m
 fair_release {h} {m} e l k (release_off o) = absurd (subst Off e o)
-fair_release {h} {m} e l k (release_waiting w) = absurd (subst IsRunning (sym e ∙ w) tt)
+fair_release {h} {m} e l k (release_waiting w) = cc
 fair_release {h} {m} e l k (release_unknown _ n) = absurd (n k)
 fair_release {h} {m} e l k (release_beyond _ _ n) = (λ g. absurd g, λ t. n t)
 fair_release {h} {m} e l k (release_spent _ _ t f) = absurd (omega arith)

@@ -1,4 +1,3 @@
-pub mod Follows
 pub mod Lawfuls
 pub mod Slips
 pub mod Ties

@@ -1,7 +1,5 @@
 -- Slips: a number is given once, and only the slip of the latest granted call is taken.
-use Rattle.std.proofs.Common.{◌≡◌, ℕ, ◌+◌, ◌<◌, ◌≤◌, ◌↔◌, [], ◌∷◌, sym, refl, ◌∙◌, subst, inl, inr, arith}
-use Rattle.controller.specs.declared.run.Stage.{Stage}
-use Rattle.controller.specs.declared.run.Stage.TheVariants.{Bare, Ready, Running, Waiting}
+use Rattle.std.proofs.Common.{◌≡◌, ℕ, ◌+◌, ◌<◌, ◌≤◌, ◌↔◌, [], ◌∷◌, sym, refl, ◌∙◌, inl, inr, arith}
 use Rattle.controller.specs.Histories.{Call, admit, start, release, done, failed, rest, Answer, granted, denied, event, History, releases}
 use Rattle.controller.specs.Rules.{Awaited, Rule, release_granted, done_stale, done_granted, failed_stale, failed_granted, Lawful, more, IsGrant}
 use Rattle.controller.specs.Whole.{Latest, Gave, SlipsOnce}
@@ -11,24 +9,18 @@ use Rattle.controller.proofs.Lawfuls.{last_rule}
 numbered : {h : History} {m n : ℕ} → Rule h (release m) (granted n) → n ≡ releases h + 1
 numbered (release_granted e k t l) = refl
 
-abbrev Waits : Stage → Type 0
-Waits Bare = ⊥
-Waits Ready = ⊥
-Waits Running = ⊥
-Waits Waiting = Unit {0}
-
 before : {h : History} {k : Call} {a : Answer} → Lawful (event k a ∷ h) → Lawful h
 before (more L r) = L
 
 awaited_latest : (h : History) → Lawful h → (k : ℕ) → Awaited h k → Latest h k
-awaited_latest [] L k w = subst Waits (sym w.0) tt
+awaited_latest [] L k w = let waits = w.0 in cc
 awaited_latest (event j (denied n i) ∷ h) (more L r) k w = awaited_latest h L k w
-awaited_latest (event (admit plan permit rows) (granted n) ∷ h) (more L r) k w = subst Waits (sym w.0) tt
-awaited_latest (event start (granted n) ∷ h) (more L r) k w = subst Waits (sym w.0) tt
+awaited_latest (event (admit plan permit rows) (granted n) ∷ h) (more L r) k w = let waits = w.0 in cc
+awaited_latest (event start (granted n) ∷ h) (more L r) k w = let waits = w.0 in cc
 awaited_latest (event (release m) (granted n) ∷ h) (more L r) k w = numbered r ∙ sym w.1
-awaited_latest (event (done j) (granted n) ∷ h) (more L r) k w = subst Waits (sym w.0) tt
-awaited_latest (event (failed j) (granted n) ∷ h) (more L r) k w = subst Waits (sym w.0) tt
-awaited_latest (event rest (granted n) ∷ h) (more L r) k w = subst Waits (sym w.0) tt
+awaited_latest (event (done j) (granted n) ∷ h) (more L r) k w = let waits = w.0 in cc
+awaited_latest (event (failed j) (granted n) ∷ h) (more L r) k w = let waits = w.0 in cc
+awaited_latest (event rest (granted n) ∷ h) (more L r) k w = let waits = w.0 in cc
 
 latest_awaited : (h : History) → Lawful h → (k : ℕ) → Latest h k → Awaited h k
 latest_awaited [] L k l = absurd l

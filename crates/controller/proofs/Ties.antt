@@ -1,24 +1,23 @@
 -- The record answers by the rules, and the longer history accounts for what a call leaves.
-use Rattle.std.proofs.Common.{◌≡◌, ℕ, zero, suc, ◌+◌, ◌<◌, ◌≤◌, true, eqb, ltb, leb, ◌↔◌, List, [], ◌∷◌, ◌++◌, sym, refl, ap, ◌∙◌, subst, subst₂, inl, inr, arith}
-use Rattle.std.proofs.lemmas.Bool.{eqb-true, eqb-false, ltb-true, ltb-false, leb-true, le-leb, and_parts, and_from, both_ways, cases_lt}
+use Rattle.std.proofs.Common.{◌≡◌, ℕ, ◌+◌, ◌<◌, ◌≤◌, true, eqb, ltb, leb, ◌↔◌, List, [], ◌∷◌, ◌++◌, sym, refl, ap, ◌∙◌, subst, subst₂, arith}
+use Rattle.std.proofs.lemmas.Bool.{eqb-true, eqb-false, ltb-true, ltb-false, leb-true, le-leb, and_parts, and_from, both_ways, cond_both}
 use Rattle.process.specs.Meaning.{Proc}
 use Rattle.process.specs.Sets.{only}
 use Rattle.certificate.specs.declared.Row.{Row}
-use Rattle.reach.specs.Reach.{after}
+use Rattle.reach.specs.Reach.{after, after_all}
+use Rattle.reach.proofs.Follows.{none_silent_push, after_push, trace_iff}
 use Rattle.gate.specs.Follow.{plain}
 use Rattle.gate.specs.Gate.{Verdict, gate, accepted, refused}
 use Rattle.controller.specs.declared.fault.DriverFault.TheVariants.{TooManyMoves, UnknownMotion, StaleSlip, NoNumberLeft, NotAllowed}
-use Rattle.controller.specs.declared.run.Run.{Run}
 use Rattle.controller.specs.declared.run.Stage.{Stage}
 use Rattle.controller.specs.declared.run.Stage.TheVariants.{Bare, Ready, Running, Waiting}
-use Rattle.controller.specs.Listed.{moves_in_all}
+use Rattle.movetable.specs.Lists.{moves_in_all}
 use Rattle.controller.specs.Histories.{Call, admit, start, release, done, failed, rest, Answer, granted, denied, driver, event, History, calls, phase, released, releases, last_plan, Began, began}
 use Rattle.controller.specs.Rules.{On, Off, Known, Allowed, Awaited, Rule, admit_on, admit_refused, admit_many, admit_granted, start_bare, start_on, start_granted, release_off, release_waiting, release_unknown, release_beyond, release_spent, release_granted, done_stale, done_granted, failed_stale, failed_granted, rest_off, rest_granted, Lawful, fresh, more, All, Bounded}
-use Rattle.controller.specs.Runs.{run_of, is_known_motion, kept, start_answer, release_answer, slip_answer, rest_answer}
-use Rattle.controller.specs.Record.{Record, keeping, factory, judged, admit_answer, answer, moved, left, next}
-use Rattle.controller.specs.Accounts.{after_all, cursor_after, Accounts, Accounted}
-use Rattle.controller.proofs.Follows.{pick, loud_push, after_push, trace_iff}
-use Rattle.controller.proofs.Lawfuls.{granted_release, plan_limits, released_loud, few_releases, same_plan}
+use Rattle.controller.specs.Runs.{run_of, is_known_motion, start_answer, release_answer, slip_answer, rest_answer}
+use Rattle.controller.specs.Record.{Record, keeping, factory, judged, admit_answer, answer, left, next}
+use Rattle.controller.specs.Accounts.{cursor_after, Accounts, Accounted}
+use Rattle.controller.proofs.Lawfuls.{granted_release, plan_limits, released_none_silent, few_releases, same_plan}
 
 -- the record that the history says
 abbrev pub record_of : History → Record
@@ -37,7 +36,7 @@ next_is h L o m =
 allowed_iff : (h : History) → Lawful h → All Bounded (calls h) → On (phase h) → (m : ℕ) → 1 ≤ m → (0 < next_set h m) ↔ Allowed h m
 allowed_iff h L b o m l =
     subst (λ (T : ℕ). (0 < T) ↔ Allowed h m) (next_is h L o m)
-    (trace_iff (last_plan h) (plan_limits h b) (released h ++ m ∷ []) (loud_push (released h) m (released_loud h L) l))
+    (trace_iff (last_plan h) (plan_limits h b) (released h ++ m ∷ []) (none_silent_push (released h) m (released_none_silent h L) l))
 
 -- the record's answer is the rule's
 
@@ -45,7 +44,7 @@ judged_rule : (h : History) (plan permit : Proc) (rows : List Row) → Off (phas
     → Rule h (admit plan permit rows) (judged v (moves_in_all plan))
 judged_rule h plan permit rows o (refused n i) e = admit_refused o e
 judged_rule h plan permit rows o accepted e =
-    pick (ltb 256 (moves_in_all plan)) (driver TooManyMoves) (granted 0) (Rule h (admit plan permit rows))
+    cond_both (ltb 256 (moves_in_all plan)) (driver TooManyMoves) (granted 0) (Rule h (admit plan permit rows))
     (λ t. admit_many o e (ltb-true 256 (moves_in_all plan) t))
     (λ t. admit_granted o e (ltb-false 256 (moves_in_all plan) t))
 
@@ -68,24 +67,20 @@ known_is m e = let b = and_parts (leb 1 m) (leb m 24) e in (leb-true 1 m b.0, le
 is_known : (m : ℕ) → Known m → is_known_motion m ≡ true
 is_known m k = and_from (leb 1 m) (leb m 24) (le-leb 1 m k.0) (le-leb m 24 k.1)
 
-above_zero : (n : ℕ) → (n ≡ 0 → ⊥) → 0 < n
-above_zero zero f = absurd (f refl)
-above_zero (suc n) f = omega arith
-
 release_rule : (h : History) → Lawful h → All Bounded (calls h) → (m : ℕ) (s : Stage) → phase h ≡ s
     → Rule h (release m) (release_answer s (next_set h m) (releases h) m)
 release_rule h L b m Bare e = release_off (subst Off (sym e) tt)
 release_rule h L b m Ready e = release_off (subst Off (sym e) tt)
 release_rule h L b m Waiting e = release_waiting e
 release_rule h L b m Running e =
-    pick (is_known_motion m) _ (driver UnknownMotion) (Rule h (release m))
+    cond_both (is_known_motion m) _ (driver UnknownMotion) (Rule h (release m))
     (λ k.
-    pick (eqb (next_set h m) 0) (driver NotAllowed) _ (Rule h (release m))
+    cond_both (eqb (next_set h m) 0) (driver NotAllowed) _ (Rule h (release m))
     (λ z. release_beyond e (known_is m k) (λ t. empty (known_is m k) (eqb-true (next_set h m) 0 z) t))
     (λ z.
-    pick (eqb (releases h) 4294967295) (driver NoNumberLeft) (granted (releases h + 1)) (Rule h (release m))
-    (λ f. release_spent e (known_is m k) (some_state (known_is m k) (eqb-false (next_set h m) 0 z)) (all_given (eqb-true (releases h) 4294967295 f)))
-    (λ f. release_granted e (known_is m k) (some_state (known_is m k) (eqb-false (next_set h m) 0 z)) (some_left (eqb-false (releases h) 4294967295 f)))))
+    cond_both (eqb (releases h) 4294967295) (driver NoNumberLeft) (granted (releases h + 1)) (Rule h (release m))
+    (λ f. release_spent e (known_is m k) (some_state (known_is m k) (eqb-false (next_set h m) 0 z)) (omega (arith, eqb-true (releases h) 4294967295 f)))
+    (λ f. release_granted e (known_is m k) (some_state (known_is m k) (eqb-false (next_set h m) 0 z)) (omega (arith, eqb-false (releases h) 4294967295 f, few_releases h L)))))
     (λ k. release_unknown e (λ n. both_ways (is_known_motion m) k (is_known m n)))
   where
     iff : Known m → (0 < next_set h m) ↔ Allowed h m
@@ -95,34 +90,16 @@ release_rule h L b m Running e =
     empty n z t = let l = (iff n).1 t in omega arith
 
     some_state : Known m → (next_set h m ≡ 0 → ⊥) → Allowed h m
-    some_state n z = (iff n).0 (above_zero (next_set h m) z)
-
-    all_given : releases h ≡ 4294967295 → 4294967295 ≤ releases h
-    all_given f = omega arith
-
-    some_left : (releases h ≡ 4294967295 → ⊥) → releases h < 4294967295
-    some_left f = elim (cases_lt (releases h) 4294967295) [ inl l ↦ l | inr l ↦ absurd (f (top l (few_releases h L))) ]
-      where
-        top : 4294967295 ≤ releases h → releases h ≤ 4294967295 → releases h ≡ 4294967295
-        top l l' = omega arith
-
-abbrev IsWaiting : Stage → Type 0
-IsWaiting Bare = ⊥
-IsWaiting Ready = ⊥
-IsWaiting Running = ⊥
-IsWaiting Waiting = Unit {0}
-
-not_awaited : (h : History) (k : ℕ) → (IsWaiting (phase h) → ⊥) → Awaited h k → ⊥
-not_awaited h k n w = n (subst IsWaiting (sym w.0) tt)
+    some_state n z = (iff n).0 (omega arith)
 
 -- done and failed
 slip_rule : (h : History) (k : ℕ) (P : Answer → Type 0) → ((Awaited h k → ⊥) → P (driver StaleSlip)) → (Awaited h k → P (granted 0))
     → (s : Stage) → phase h ≡ s → P (slip_answer s (releases h) k)
-slip_rule h k P f g Bare e = f (not_awaited h k (λ w. subst IsWaiting e w))
-slip_rule h k P f g Ready e = f (not_awaited h k (λ w. subst IsWaiting e w))
-slip_rule h k P f g Running e = f (not_awaited h k (λ w. subst IsWaiting e w))
+slip_rule h k P f g Bare e = f (λ w. let waits = w.0 in cc)
+slip_rule h k P f g Ready e = f (λ w. let waits = w.0 in cc)
+slip_rule h k P f g Running e = f (λ w. let waits = w.0 in cc)
 slip_rule h k P f g Waiting e =
-    pick (eqb k (releases h)) (granted 0) (driver StaleSlip) P
+    cond_both (eqb k (releases h)) (granted 0) (driver StaleSlip) P
     (λ t. g (e, eqb-true k (releases h) t))
     (λ t. f (λ w. eqb-false k (releases h) t w.1))
 
@@ -182,20 +159,6 @@ pub accounted : (k : Call) → Bounded k → (b c : Record) (a : Answer) → a �
 accounted k w b c a ea ec h A =
     subst₂ (λ (x : Answer) (y : Record). Accounts (event k x ∷ h) y) (sym ea) (sym ec)
     (subst (λ (x : Record). Accounts (event k (answer x k) ∷ h) (next x k)) (sym (same_record h b A)) (tie_record h k w A.lawful A.bounded))
-
--- all that a call says, from its equations
-pub called : (k : Call) → Bounded k → (b c : Record) (a : Answer) → a ≡ answer b k → c ≡ next b k
-    → record { answer : a ≡ answer b k; after : c ≡ next b k; accounted : Accounted b k a c }
-called k w b c a ea ec = record { answer = ea; after = ec; accounted = accounted k w b c a ea ec }
-
--- a call on the run alone
-run_left : (k : Call) (b : Record) (r : Run) (a : Answer) → moved b k ≡ keeping b.moves r → keeping b.moves (kept a b.run r) ≡ left a b k
-run_left k b r (granted n) e = sym e
-run_left k b r (denied n i) e = refl
-
-pub run_called : (k : Call) → Bounded k → (b : Record) (r s : Run) (a : Answer) → moved b k ≡ keeping b.moves r → a ≡ answer b k → s ≡ kept (answer b k) b.run r
-    → record { answer : a ≡ answer b k; after : keeping b.moves s ≡ next b k; accounted : Accounted b k a (keeping b.moves s) }
-run_called k w b r s a e ea es = called k w b (keeping b.moves s) a ea (ap (keeping b.moves) es ∙ run_left k b r (answer b k) e)
 
 pub new_accounts : (c : Record) → c ≡ factory → Accounts [] c
 new_accounts c e = accounts [] c fresh tt e

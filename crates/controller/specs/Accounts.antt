@@ -1,16 +1,10 @@
 -- The record that a history accounts for.
-use Rattle.std.specs.Prelude.{◌≡◌, ℕ, List, [], ◌∷◌}
-use Rattle.process.specs.Meaning.{Proc}
+use Rattle.std.specs.Prelude.{◌≡◌, ℕ, List, ◌∷◌}
 use Rattle.process.specs.Sets.{only}
-use Rattle.reach.specs.Reach.{after}
+use Rattle.reach.specs.Reach.{after_all}
 use Rattle.controller.specs.Histories.{Call, Answer, event, History, calls, phase, released, releases, last_plan, Began, never, under, began}
 use Rattle.controller.specs.Rules.{Lawful, All, Bounded}
 use Rattle.controller.specs.Record.{Record}
-
--- After, motion by motion
-abbrev pub after_all : Proc → ℕ → List ℕ → ℕ
-after_all p T [] = T
-after_all p T (a ∷ w) = after_all p (after p T a) w
 
 -- the states right after the motions: none before any start, else those of the plan in force at the start
 abbrev pub cursor_after : Began → List ℕ → ℕ

@@ -1,6 +1,4 @@
 pub mod Faults
-pub mod Listed
-pub mod Copied
 pub mod Histories
 pub mod Rules
 pub mod Runs
@@ -9,4 +7,3 @@ pub mod Record
 pub mod Accounts
 pub mod Whole
 pub mod View
-pub mod Listing

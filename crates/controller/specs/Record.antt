@@ -8,7 +8,7 @@ use Rattle.controller.specs.declared.run.Run.{Run}
 use Rattle.controller.specs.declared.run.Stage.{Stage}
 use Rattle.controller.specs.declared.run.Stage.TheVariants.{Bare, Ready, Running, Waiting}
 use Rattle.controller.specs.Histories.{idle, Call, admit, start, release, done, failed, rest, Answer, granted, denied, driver}
-use Rattle.controller.specs.Listed.{moves_in_all}
+use Rattle.movetable.specs.Lists.{moves_in_all}
 use Rattle.controller.specs.Runs.{fresh_run, at_stage, start_answer, started, ahead, release_from, advanced, slip_answer, rest_answer}
 
 -- the moves of the plan, and the run through them

@@ -8,7 +8,7 @@ use Rattle.gate.specs.Gate.{gate, accepted, refused}
 use Rattle.controller.specs.declared.fault.DriverFault.TheVariants.{RunOn, TooManyMoves, NoRun, UnknownMotion, StillWaiting, StaleSlip, NoNumberLeft, NotAllowed}
 use Rattle.controller.specs.declared.run.Stage.{Stage}
 use Rattle.controller.specs.declared.run.Stage.TheVariants.{Bare, Ready, Running, Waiting}
-use Rattle.controller.specs.Listed.{moves_in_all}
+use Rattle.movetable.specs.Lists.{moves_in_all}
 use Rattle.controller.specs.Histories.{Call, admit, start, release, done, failed, rest, Answer, granted, denied, driver, event, History, phase, released, releases, last_plan}
 
 -- a run is on

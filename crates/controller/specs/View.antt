@@ -1,6 +1,6 @@
 -- What a controller holds.
 use Rattle.controller.specs.declared.controller.Controller.{Controller}
-use Rattle.controller.specs.Copied.{meaning_of}
+use Rattle.movetable.specs.Table.{meaning_of}
 use Rattle.controller.specs.Record.{Record, keeping}
 
 -- the record of a controller: what its moves mean, and its run

@@ -7,31 +7,25 @@ ghost use Rattle.controller.specs.Record.{factory, answer as answer_of, next as 
 ghost use Rattle.controller.specs.View.{view};
 ghost use Rattle.controller.specs.Whole.{EveryList};
 
-use crate::copied::CopiedPlan;
-use crate::copied::copying::count_moves;
 use crate::fault::{AdmitFault, DriverFault};
-use crate::run::Run;
+use crate::run::{Run, Stage};
 use crate::slip::Slip;
 use certificate::Row;
 use common::Located;
 use gate::check;
+use movetable::{MoveTable, moves_in_all};
 use process::Process;
 
 // How many moves in all a plan may have.
-const MAX_MOVES: u16 = 256;
+const MAX_MOVES: usize = 256;
 
 // The moves of the plan last admitted, and the run through them.
+// Kept: clauses see it through the function `view`; a model's value cannot be the record, since a process's moves are a
+// function, and a value must be data.
 #[derive(Drop)]
 pub struct Controller {
-    moves: CopiedPlan,
+    moves: MoveTable<MAX_MOVES>,
     run: Run,
-}
-
-// A driver's fault has no place.
-fn unplaced(fault: DriverFault) -> Located<AdmitFault>
-    ensures { result ≡ record { fault = AdmitFault.Driver fault; place = 0 } }
-{
-    Located::at(AdmitFault::Driver(fault), 0)
 }
 
 impl Controller {
@@ -42,33 +36,9 @@ impl Controller {
         ensures every { EveryList }
     {
         Controller {
-            moves: CopiedPlan::idle(),
+            moves: MoveTable::new(),
             run: Run::new(),
         }
-    }
-
-    // Copies the moves of a plan that passes every test.
-    fn take_over<P: Process, Q: Process>(
-        &mut self,
-        plan: &P,
-        permit: &Q,
-        rows: &[Row],
-    ) -> Result<(), Located<AdmitFault>>
-        ensures answer { admit_told result ≡ answer_of (view self.old) (an_admit (P.meaning plan.now) (Q.meaning permit.now) rows.now) }
-        ensures after { view self.new ≡ next_of (view self.old) (an_admit (P.meaning plan.now) (Q.meaning permit.now) rows.now) }
-    {
-        if self.run.is_on() {
-            return Err(unplaced(DriverFault::RunOn));
-        }
-        if let Err(at) = check(plan, permit, rows) {
-            return Err(Located::at(AdmitFault::Certificate(at.fault), at.place));
-        }
-        if count_moves(plan) > MAX_MOVES {
-            return Err(unplaced(DriverFault::TooManyMoves));
-        }
-        self.moves = CopiedPlan::of(plan);
-        self.run.make_ready();
-        Ok(())
     }
 
     // Admits a plan that its certificate shows to be within the permit.
@@ -82,7 +52,16 @@ impl Controller {
         ensures after { view self.new ≡ next_of (view self.old) (an_admit (P.meaning plan.now) (Q.meaning permit.now) rows.now) }
         ensures accounted { Accounted (view self.old) (an_admit (P.meaning plan.now) (Q.meaning permit.now) rows.now) (admit_told result) (view self.new) }
     {
-        self.take_over(plan, permit, rows)
+        if self.run.is_on() {
+            return Err(DriverFault::RunOn.into());
+        }
+        check(plan, permit, rows).map_err(Located::lift)?;
+        if moves_in_all(plan) > MAX_MOVES {
+            return Err(DriverFault::TooManyMoves.into());
+        }
+        self.moves = MoveTable::of(plan);
+        self.run.make_ready();
+        Ok(())
     }
 
     // Starts a run through the plan last admitted.
@@ -110,7 +89,7 @@ impl Controller {
         ensures after { view self.new ≡ next_of (view self.old) (a_done slip.number) }
         ensures accounted { Accounted (view self.old) (a_done slip.number) (plain_told result) (view self.new) }
     {
-        self.run.done(slip)
+        self.run.spend(slip, Stage::Running)
     }
 
     // The motion of the slip failed: the run is over.
@@ -119,7 +98,7 @@ impl Controller {
         ensures after { view self.new ≡ next_of (view self.old) (a_failed slip.number) }
         ensures accounted { Accounted (view self.old) (a_failed slip.number) (plain_told result) (view self.new) }
     {
-        self.run.failed(slip)
+        self.run.spend(slip, Stage::Ready)
     }
 
     // Ends the run; a slip that is still out is stale from then on.

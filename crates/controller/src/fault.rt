@@ -1,7 +1,9 @@
 // Why a controller denies a call.
+ghost use Rattle.std.specs.Prelude.{◌≡◌};
 ghost use Rattle.controller.specs.Faults.{driver_number, admit_number};
+ghost use Rattle.controller.specs.declared.fault.AdmitFault.TheVariants.{Certificate, Driver};
 
-use common::Numbered;
+use common::{Located, Numbered};
 use gate::CertificateFault;
 
 // What the driver of a controller did wrong.
@@ -47,6 +49,23 @@ impl Numbered for DriverFault {
 pub enum AdmitFault {
     Certificate(CertificateFault),
     Driver(DriverFault),
+}
+
+impl From<CertificateFault> for AdmitFault {
+    ghost from_gives = { λ f a. a ≡ Certificate f };
+
+    fn from(fault: CertificateFault) -> AdmitFault {
+        AdmitFault::Certificate(fault)
+    }
+}
+
+// A driver's fault has place 0.
+impl From<DriverFault> for Located<AdmitFault> {
+    ghost from_gives = { λ f at. at ≡ record { fault = Driver f; place = 0 } };
+
+    fn from(fault: DriverFault) -> Located<AdmitFault> {
+        Located::at(AdmitFault::Driver(fault), 0)
+    }
 }
 
 impl Numbered for AdmitFault {

@@ -2,7 +2,6 @@
 #![tactic(auto)]
 
 pub mod controller;
-mod copied;
 pub mod fault;
 pub mod run;
 pub mod slip;

@@ -2,20 +2,12 @@
 ghost use Rattle.std.specs.Prelude.{◌≡◌};
 ghost use Rattle.controller.specs.Answers.{plain_told, slip_told, Unspent};
 ghost use Rattle.controller.specs.Runs.{fresh_run, is_on, at_stage, start_answer, after_start, release_from, after_release, slip_answer, after_slip, rest_answer, after_rest};
-ghost use Rattle.controller.specs.declared.run.Stage.TheVariants.{Ready, Running};
+ghost use Rattle.controller.specs.declared.run.Stage.TheVariants.{Ready};
 
 use crate::fault::DriverFault;
 use crate::slip::Slip;
-use process::{Process, StateSet};
+use process::{LAST_MOTION, Process, StateSet};
 use reach::after;
-
-// The motions that the controller knows are those from the first to the last.
-const FIRST_MOTION: u8 = 1;
-
-const LAST_MOTION: u8 = 24;
-
-// The last number that a slip can have.
-const LAST_NUMBER: u32 = 4294967295;
 
 // What a controller may be asked for.
 #[derive(Clone, Copy, Debug, PartialEq, Eq)]
@@ -45,7 +37,7 @@ impl Run {
     {
         Run {
             stage: Stage::Bare,
-            cursor: StateSet { bits: 0 },
+            cursor: StateSet::empty(),
             count: 0,
         }
     }
@@ -54,10 +46,7 @@ impl Run {
     pub(crate) fn is_on(&self) -> bool
         ensures { result ≡ is_on self.now.stage }
     {
-        match self.stage {
-            Stage::Bare | Stage::Ready => false,
-            Stage::Running | Stage::Waiting => true,
-        }
+        matches!(self.stage, Stage::Running | Stage::Waiting)
     }
 
     // A plan is there.
@@ -75,11 +64,10 @@ impl Run {
         match self.stage {
             Stage::Bare => return Err(DriverFault::NoRun),
             Stage::Ready => {}
-            Stage::Running => return Err(DriverFault::RunOn),
-            Stage::Waiting => return Err(DriverFault::RunOn),
+            Stage::Running | Stage::Waiting => return Err(DriverFault::RunOn),
         }
         self.stage = Stage::Running;
-        self.cursor = StateSet { bits: 1 };
+        self.cursor = StateSet::single(0);
         Ok(())
     }
 
@@ -90,63 +78,40 @@ impl Run {
         ensures unspent { Unspent result }
     {
         match self.stage {
-            Stage::Bare => return Err(DriverFault::NoRun),
-            Stage::Ready => return Err(DriverFault::NoRun),
+            Stage::Bare | Stage::Ready => return Err(DriverFault::NoRun),
             Stage::Waiting => return Err(DriverFault::StillWaiting),
             Stage::Running => {}
         }
-        if motion < FIRST_MOTION || motion > LAST_MOTION {
+        if !(1..=LAST_MOTION).contains(&motion) {
             return Err(DriverFault::UnknownMotion);
         }
         let next = after(plan, self.cursor, motion);
         if next.is_empty() {
             return Err(DriverFault::NotAllowed);
         }
-        if self.count == LAST_NUMBER {
+        let Some(number) = self.count.checked_add(1) else {
             return Err(DriverFault::NoNumberLeft);
-        }
+        };
         self.stage = Stage::Waiting;
         self.cursor = next;
-        self.count += 1;
+        self.count = number;
         Ok(Slip {
-            number: self.count,
+            number,
             spent: false,
         })
     }
 
     // Spends the slip; the one that is waited for leads on to the stage.
-    fn spend(&mut self, mut slip: Slip, to: Stage) -> Result<(), DriverFault>
+    pub(crate) fn spend(&mut self, mut slip: Slip, to: Stage) -> Result<(), DriverFault>
         ensures answer { plain_told result ≡ slip_answer self.old.stage self.old.count slip.number }
         ensures run { self.new ≡ after_slip to self.old slip.number }
     {
         slip.spent = true;
-        match self.stage {
-            Stage::Bare => return Err(DriverFault::StaleSlip),
-            Stage::Ready => return Err(DriverFault::StaleSlip),
-            Stage::Running => return Err(DriverFault::StaleSlip),
-            Stage::Waiting => {}
-        }
-        if slip.number != self.count {
+        if self.stage != Stage::Waiting || slip.number != self.count {
             return Err(DriverFault::StaleSlip);
         }
         self.stage = to;
         Ok(())
-    }
-
-    // The released motion is done: the run goes on.
-    pub(crate) fn done(&mut self, slip: Slip) -> Result<(), DriverFault>
-        ensures answer { plain_told result ≡ slip_answer self.old.stage self.old.count slip.number }
-        ensures run { self.new ≡ after_slip Running self.old slip.number }
-    {
-        self.spend(slip, Stage::Running)
-    }
-
-    // The released motion failed: the run is over.
-    pub(crate) fn failed(&mut self, slip: Slip) -> Result<(), DriverFault>
-        ensures answer { plain_told result ≡ slip_answer self.old.stage self.old.count slip.number }
-        ensures run { self.new ≡ after_slip Ready self.old slip.number }
-    {
-        self.spend(slip, Stage::Ready)
     }
 
     // Ends the run.

@@ -2,6 +2,7 @@
 ghost use Rattle.std.specs.Prelude.{◌≡◌, true};
 
 // It may be let go only once it is spent, and only done and failed spend it.
+// Kept: the flag is what `drop` asks for; so a slip that is let go unspent is a proof that fails.
 pub struct Slip {
     pub(crate) number: u32,
     pub(crate) spent: bool,

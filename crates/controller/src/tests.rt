@@ -7,7 +7,6 @@ use crate::fault::DriverFault;
 use certificate::Row;
 use common::Numbered;
 use process::{Move, Process, StateSet};
-use std::process::Abort;
 use std::test::Fail;
 
 // State 0 steps in silence to state 1, which moves by motion 3 back to state 0.
@@ -50,68 +49,50 @@ const ROWS: [Row; 1] = [Row {
     by: 0,
 }];
 
-// The call is denied by the number.
-fn denied(rt: &impl Abort, r: Result<(), DriverFault>, number: u8) -> Result<(), Fail> {
-    match r {
-        Ok(()) => Err(Fail::new("granted")),
-        Err(fault) => {
-            assert_eq!(rt; fault.number(), number);
-            Ok(())
-        },
-    }
+// The answer of a call, its fault told by number.
+fn told<T>(answer: Result<T, DriverFault>) -> Result<T, u8> {
+    answer.map_err(|fault| fault.number())
 }
 
-// The plan is not admitted, by the number and at place 0.
-fn turned_away(rt: &impl Abort, c: &mut Controller, rows: &[Row], number: u8) -> Result<(), Fail> {
-    match c.admit(&Shuttle, &Shuttle, rows) {
-        Ok(()) => Err(Fail::new("admitted")),
-        Err(at) => {
-            assert_eq!(rt; at.fault.number(), number);
-            assert_eq!(rt; at.place, 0);
-            Ok(())
-        }
-    }
+// The answer to an admit, its fault told by number and place.
+fn admitted(c: &mut Controller, rows: &[Row]) -> Result<(), (u8, usize)> {
+    c.admit(&Shuttle, &Shuttle, rows)
+        .map_err(|at| (at.fault.number(), at.place))
 }
 
-// Releases the motion and hands the slip back at once: the number of the slip, or of the fault.
-fn go(c: &mut Controller, motion: u8) -> Result<u32, u8> {
-    match c.release(motion) {
-        Ok(slip) => {
-            let number = slip.number();
-            match c.done(slip) {
-                Ok(()) => Ok(number),
-                Err(fault) => Err(fault.number()),
-            }
-        }
-        Err(fault) => Err(fault.number()),
-    }
+// Releases the motion and hands the slip back at once: the number of the slip.
+fn go(c: &mut Controller, motion: u8) -> Result<u32, DriverFault> {
+    let slip = c.release(motion)?;
+    let number = slip.number();
+    c.done(slip)?;
+    Ok(number)
 }
 
 #[test]
-fn in_order(rt: HostRuntime) -> Result<(), Fail> {
+fn in_order(rt: HostRuntime) {
     let mut c = Controller::new();
-    denied(&rt, c.start(), 63)?;
-    denied(&rt, c.rest(), 63)?;
-    turned_away(&rt, &mut c, &[], 43)?;
-    assert!(rt; c.admit(&Shuttle, &Shuttle, &ROWS).is_ok());
-    assert_eq!(rt; go(&mut c, 3), Err(63));
+    assert_eq!(rt; told(c.start()), Err(63));
+    assert_eq!(rt; told(c.rest()), Err(63));
+    assert_eq!(rt; admitted(&mut c, &[]), Err((43, 0)));
+    assert_eq!(rt; admitted(&mut c, &ROWS), Ok(()));
+    assert_eq!(rt; told(go(&mut c, 3)), Err(63));
     assert!(rt; c.start().is_ok());
-    denied(&rt, c.start(), 61)?;
-    turned_away(&rt, &mut c, &ROWS, 61)?;
-    assert_eq!(rt; go(&mut c, 0), Err(64));
-    assert_eq!(rt; go(&mut c, 25), Err(64));
-    assert_eq!(rt; go(&mut c, 4), Err(68));
-    assert_eq!(rt; go(&mut c, 3), Ok(1));
-    assert_eq!(rt; go(&mut c, 3), Ok(2));
+    assert_eq!(rt; told(c.start()), Err(61));
+    assert_eq!(rt; admitted(&mut c, &ROWS), Err((61, 0)));
+    assert_eq!(rt; told(go(&mut c, 0)), Err(64));
+    assert_eq!(rt; told(go(&mut c, 25)), Err(64));
+    assert_eq!(rt; told(go(&mut c, 4)), Err(68));
+    assert_eq!(rt; told(go(&mut c, 3)), Ok(1));
+    assert_eq!(rt; told(go(&mut c, 3)), Ok(2));
     assert!(rt; c.rest().is_ok());
-    denied(&rt, c.rest(), 63)
+    assert_eq!(rt; told(c.rest()), Err(63));
 }
 
 // A slip from before a rest is stale in the next run, and so is one that came to nothing.
 #[test]
 fn stale_slips(rt: HostRuntime) -> Result<(), Fail> {
     let mut c = Controller::new();
-    assert!(rt; c.admit(&Shuttle, &Shuttle, &ROWS).is_ok());
+    assert_eq!(rt; admitted(&mut c, &ROWS), Ok(()));
     assert!(rt; c.start().is_ok());
     let Ok(old) = c.release(3) else {
         return Err(Fail::new("denied"));
@@ -126,8 +107,8 @@ fn stale_slips(rt: HostRuntime) -> Result<(), Fail> {
     let taken_old = c.done(old);
     let taken_new = c.failed(new);
     assert!(rt; rested && started);
-    assert_eq!(rt; held, Err(65));
-    denied(&rt, taken_old, 66)?;
+    assert_eq!(rt; told(held), Err(65));
+    assert_eq!(rt; told(taken_old), Err(66));
     assert!(rt; taken_new.is_ok());
     assert!(rt; c.start().is_ok());
     Ok(())

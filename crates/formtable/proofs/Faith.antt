@@ -1,5 +1,5 @@
 -- The moves of a place are the steps of its term.
-use Rattle.std.proofs.Common.{◌≡◌, ℕ, suc, ◌<◌, false, ◌⊎◌, List, [], ◌∷◌, ◌++◌, length, sym, refl, ap, ◌∙◌, subst, inl, inr, ⊎_elim, arith}
+use Rattle.std.proofs.Common.{Some, Option, ◌≡◌, ℕ, suc, ◌<◌, false, ◌⊎◌, List, [], ◌∷◌, ◌++◌, length, sym, refl, ap, ◌∙◌, subst, inl, inr, ⊎_elim, arith}
 use Rattle.process.specs.Meaning.{HasMove, Steps}
 use Rattle.process.specs.declared.moves.Move.{Move}
 use Rattle.formtable.specs.Kinds.{is_rec}
@@ -34,13 +34,13 @@ from : (a : ℕ) (u s t : Term) → s ≡ t → Step t a u → Step s a u
 from a u s t e p = subst (λ (w : Term). Step w a u) (sym e) p
 
 module _ (rs : List Record) where
-  rec_inner : {k j : ℕ} → form_at rs k ≡ Rec → At rs k j → At rs (suc k) j
-  rec_inner {k} q (at_end f) = absurd (not_rec rs k k End q f refl refl)
-  rec_inner {k} q (at_do {a = a} f d) = absurd (not_rec rs k k (Do a) q f refl refl)
-  rec_inner {k} q (at_tau f d) = absurd (not_rec rs k k Tau q f refl refl)
-  rec_inner {k} q (at_or {r = r} f d e) = absurd (not_rec rs k k (Or r) q f refl refl)
+  rec_inner : {k j : ℕ} → form_at rs k ≡ Some Rec → At rs k j → At rs (suc k) j
+  rec_inner {k} q (at_end f) = absurd (not_rec rs k k (Some End) q f refl refl)
+  rec_inner {k} q (at_do {a = a} f d) = absurd (not_rec rs k k (Some (Do a)) q f refl refl)
+  rec_inner {k} q (at_tau f d) = absurd (not_rec rs k k (Some Tau) q f refl refl)
+  rec_inner {k} q (at_or {r = r} f d e) = absurd (not_rec rs k k (Some (Or r)) q f refl refl)
   rec_inner q (at_rec f d) = d
-  rec_inner {k} q (at_go {k = m} f) = absurd (not_rec rs k k (Go m) q f refl refl)
+  rec_inner {k} q (at_go {k = m} f) = absurd (not_rec rs k k (Some (Go m)) q f refl refl)
 
   -- a step to the place of the only move
   one : (s : Term) (b j : ℕ) → Step s b (full rs j) → (a t : ℕ) → HasMove (move_to b j ∷ []) a t → Step s a (full rs t)
@@ -56,40 +56,40 @@ module _ (rs : List Record) where
   moved a b t u e q = (t, inl (sym e, refl), q)
 
 module _ (rs : List Record) (laid : LaidOut rs) (bound : Bound rs) where
-  full_rec : (k : ℕ) → form_at rs k ≡ Rec → full rs k ≡ recur k (filled rs k (subterm rs (suc k)))
+  full_rec : (k : ℕ) → form_at rs k ≡ Some Rec → full rs k ≡ recur k (filled rs k (subterm rs (suc k)))
   full_rec k q =
-      let d = rec_inner rs q (inside rs laid k (known_within rs k Rec q refl)).1 in
+      let d = rec_inner rs q (inside rs laid k (known_within rs k Rec q)).1 in
       full_is rs (at_rec q d) ∙ filled_recur rs k k (sub_of d) (omega arith) ∙ ap (λ (t : Term). recur k (filled rs k t)) (sym (sub_is d))
 
   -- a recursion steps to its body, and nowhere else
-  rec_step : (k : ℕ) → form_at rs k ≡ Rec → Step (full rs k) 0 (full rs (suc k))
+  rec_step : (k : ℕ) → form_at rs k ≡ Some Rec → Step (full rs k) 0 (full rs (suc k))
   rec_step k q =
       let u = filled rs k (subterm rs (suc k)) in
       subst (λ (w : Term). Step w 0 (put k w u)) (sym (full_rec k q)) by_unfolding
 
-  rec_only : (k a : ℕ) (u : Term) → form_at rs k ≡ Rec → Step (full rs k) a u → (a ≡ 0) × (u ≡ full rs (suc k))
+  rec_only : (k a : ℕ) (u : Term) → form_at rs k ≡ Some Rec → Step (full rs k) a u → (a ≡ 0) × (u ≡ full rs (suc k))
   rec_only k a u q s =
       let e = full_rec k q in
       let b = inverted (subst (λ (w : Term). Step w a u) e s) in
       (b.0, b.1 ∙ ap (λ (w : Term). put k w (filled rs k (subterm rs (suc k)))) (sym e))
 
   -- a go's term is that of its rec
-  go_is : (i k : ℕ) → form_at rs i ≡ Go k → filled rs i (var k) ≡ full rs k
-  go_is i k q = filled_var_at rs laid bound k i (bound i k q).1 (omega (arith, known_within rs i (Go k) q refl))
+  go_is : (i k : ℕ) → form_at rs i ≡ Some (Go k) → filled rs i (var k) ≡ full rs k
+  go_is i k q = filled_var_at rs laid bound k i (bound i k q).1 (omega (arith, known_within rs i (Go k) q))
 
-  prefix_is : {i j : ℕ} (f : Form) → form_at rs i ≡ f → is_rec f ≡ false → (b : ℕ) (d : At rs (suc i) j) → filled rs i (prefix b (sub_of d)) ≡ prefix b (full rs (suc i))
+  prefix_is : {i j : ℕ} (f : Option Form) → form_at rs i ≡ f → is_rec f ≡ false → (b : ℕ) (d : At rs (suc i) j) → filled rs i (prefix b (sub_of d)) ≡ prefix b (full rs (suc i))
   prefix_is {i} f q r b d = filled_prefix rs i b (sub_of d) ∙ ap (prefix b) (sym (filled_inner rs laid bound f q r d) ∙ sym (full_is rs d))
 
   moves_step : {i j : ℕ} (d : At rs i j) (a t : ℕ) → HasMove (moves_of d) a t → Step (filled rs i (sub_of d)) a (full rs t)
   moves_step (at_end f) a t m = absurd m
   moves_step (at_do {i = i} {a = b} f d) a t m =
-      one rs (filled rs i (prefix b (sub_of d))) b (suc i) (from b (full rs (suc i)) _ _ (prefix_is (Do b) f refl b d) by_prefix) a t m
+      one rs (filled rs i (prefix b (sub_of d))) b (suc i) (from b (full rs (suc i)) _ _ (prefix_is (Some (Do b)) f refl b d) by_prefix) a t m
   moves_step (at_tau {i = i} f d) a t m =
-      one rs (filled rs i (prefix 0 (sub_of d))) 0 (suc i) (from 0 (full rs (suc i)) _ _ (prefix_is Tau f refl 0 d) by_prefix) a t m
+      one rs (filled rs i (prefix 0 (sub_of d))) 0 (suc i) (from 0 (full rs (suc i)) _ _ (prefix_is (Some Tau) f refl 0 d) by_prefix) a t m
   moves_step (at_or {i = i} {r = r} f d e) a t m =
       from a (full rs t) _ _ (filled_sum rs i (sub_of d) (sub_of e))
       (⊎_elim {C = Step (sum (filled rs i (sub_of d)) (filled rs i (sub_of e))) a (full rs t)}
-      (λ n. by_left (from a (full rs t) _ _ (sym (filled_inner rs laid bound (Or r) f refl d)) (moves_step d a t n)))
+      (λ n. by_left (from a (full rs t) _ _ (sym (filled_inner rs laid bound (Some (Or r)) f refl d)) (moves_step d a t n)))
       (λ n. by_right (from a (full rs t) _ _ (sym (filled_right rs laid bound f d e)) (moves_step e a t n)))
       (has_cases (moves_of d) (moves_of e) a t m))
   moves_step (at_rec {i = i} f d) a t m =
@@ -100,12 +100,12 @@ module _ (rs : List Record) (laid : LaidOut rs) (bound : Bound rs) where
   steps_move : {i j : ℕ} (d : At rs i j) (a : ℕ) (u : Term) → Step (filled rs i (sub_of d)) a u → MovedTo rs (moves_of d) a u
   steps_move (at_end {i = i} f) a u s = absurd (inverted (from a u _ _ (sym (filled_nil rs i)) s))
   steps_move (at_do {i = i} {a = b} f d) a u s =
-      let v = inverted (from a u _ _ (sym (prefix_is (Do b) f refl b d)) s) in moved rs a b (suc i) u v.0 v.1
+      let v = inverted (from a u _ _ (sym (prefix_is (Some (Do b)) f refl b d)) s) in moved rs a b (suc i) u v.0 v.1
   steps_move (at_tau {i = i} f d) a u s =
-      let v = inverted (from a u _ _ (sym (prefix_is Tau f refl 0 d)) s) in moved rs a 0 (suc i) u v.0 v.1
+      let v = inverted (from a u _ _ (sym (prefix_is (Some Tau) f refl 0 d)) s) in moved rs a 0 (suc i) u v.0 v.1
   steps_move (at_or {i = i} {r = r} f d e) a u s =
       ⊎_elim {C = MovedTo rs (moves_of d ++ moves_of e) a u}
-      (λ p. let v = steps_move d a u (from a u _ _ (filled_inner rs laid bound (Or r) f refl d) p) in (v.0, has_left (moves_of d) (moves_of e) a v.0 v.1, v.2))
+      (λ p. let v = steps_move d a u (from a u _ _ (filled_inner rs laid bound (Some (Or r)) f refl d) p) in (v.0, has_left (moves_of d) (moves_of e) a v.0 v.1, v.2))
       (λ p. let v = steps_move e a u (from a u _ _ (filled_right rs laid bound f d e) p) in (v.0, has_right (moves_of d) (moves_of e) a v.0 v.1, v.2))
       (inverted (from a u _ _ (sym (filled_sum rs i (sub_of d) (sub_of e))) s))
   steps_move (at_rec {i = i} f d) a u s =

@@ -1,5 +1,5 @@
 -- The term of a place, with every recursion before it put in: those that are not around it change nothing.
-use Rattle.std.proofs.Common.{◌≡◌, ℕ, zero, suc, ◌+◌, ◌-◌, ◌<◌, ◌≤◌, Bool, true, false, cond, List, length, Some, sym, refl, ap, ◌∙◌, subst, ap₂, inl, inr, ⊎_elim, add-zero, add-suc, arith}
+use Rattle.std.proofs.Common.{Option, ◌≡◌, ℕ, zero, suc, ◌+◌, ◌-◌, ◌<◌, ◌≤◌, Bool, true, false, cond, List, length, Some, sym, refl, ap, ◌∙◌, subst, ap₂, inl, inr, ⊎_elim, add-zero, add-suc, arith}
 use Rattle.std.proofs.lemmas.Bool.{eq-eqb, ne_eqb, cases_lt, lt-ltb, true≢false}
 use Rattle.formtable.specs.Kinds.{is_rec}
 use Rattle.formtable.specs.Layout.{form_at, past, LaidOut}
@@ -48,12 +48,12 @@ module _ (rs : List Record) where
 
 -- a rec at x encloses i
 record Encloses (rs : List Record) (x i : ℕ) : Type 0 where
-  pub form_is_rec : form_at rs x ≡ Rec
+  pub form_is_rec : form_at rs x ≡ Some Rec
   pub before : x < i
   pub over : (p : ℕ) → past rs x ≡ Some p → i < p
 
 -- the place of a rec is that of no other form
-pub not_rec : (rs : List Record) (x i : ℕ) (f : Form) → form_at rs x ≡ Rec → form_at rs i ≡ f → is_rec f ≡ false → x ≡ i → ⊥
+pub not_rec : (rs : List Record) (x i : ℕ) (f : Option Form) → form_at rs x ≡ Some Rec → form_at rs i ≡ f → is_rec f ≡ false → x ≡ i → ⊥
 not_rec rs x i f a b c e = true≢false (ap is_rec (sym a) ∙ ap (λ (y : ℕ). is_rec (form_at rs y)) e ∙ ap is_rec b ∙ c)
 
 -- what encloses the first inner form at i + 1, and stands elsewhere than i, encloses i
@@ -78,10 +78,10 @@ module _ (rs : List Record) (laid : LaidOut rs) (bound : Bound rs) where
   -- a variable that is free in the form at i is that of a rec around it
   free_encloses : {i j : ℕ} (d : At rs i j) (x : ℕ) → Free x (sub_of d) → Encloses rs x i
   free_encloses (at_end f) x v = absurd v
-  free_encloses (at_do {i = i} {a = a} f d) x v = let b = free_encloses d x v in outer rs x i b (not_rec rs x i (Do a) b.form_is_rec f refl)
-  free_encloses (at_tau {i = i} f d) x v = let b = free_encloses d x v in outer rs x i b (not_rec rs x i Tau b.form_is_rec f refl)
-  free_encloses (at_or {i = i} {r = r} f d e) x (inl v) = let b = free_encloses d x v in outer rs x i b (not_rec rs x i (Or r) b.form_is_rec f refl)
-  free_encloses (at_or {i = i} {r = r} f d e) x (inr v) = let b = free_encloses e x v in outer_right rs x i r d b (not_rec rs x i (Or r) b.form_is_rec f refl)
+  free_encloses (at_do {i = i} {a = a} f d) x v = let b = free_encloses d x v in outer rs x i b (not_rec rs x i (Some (Do a)) b.form_is_rec f refl)
+  free_encloses (at_tau {i = i} f d) x v = let b = free_encloses d x v in outer rs x i b (not_rec rs x i (Some Tau) b.form_is_rec f refl)
+  free_encloses (at_or {i = i} {r = r} f d e) x (inl v) = let b = free_encloses d x v in outer rs x i b (not_rec rs x i (Some (Or r)) b.form_is_rec f refl)
+  free_encloses (at_or {i = i} {r = r} f d e) x (inr v) = let b = free_encloses e x v in outer_right rs x i r d b (not_rec rs x i (Some (Or r)) b.form_is_rec f refl)
   free_encloses (at_rec {i = i} f d) x v = outer rs x i (free_encloses d x v.1) v.0
   free_encloses (at_go {i = i} {k = k} f) x v =
       let b = bound i k f in
@@ -122,11 +122,11 @@ module _ (rs : List Record) (laid : LaidOut rs) (bound : Bound rs) where
       subst (λ (m : ℕ). filled rs m (var k) ≡ full rs k) e (filled_at k (i - suc k) (omega arith))
 
   -- the first inner form of a form that is no rec
-  pub filled_inner : {i j : ℕ} (f : Form) → form_at rs i ≡ f → is_rec f ≡ false → (d : At rs (suc i) j) → filled rs (suc i) (sub_of d) ≡ filled rs i (sub_of d)
+  pub filled_inner : {i j : ℕ} (f : Option Form) → form_at rs i ≡ f → is_rec f ≡ false → (d : At rs (suc i) j) → filled rs (suc i) (sub_of d) ≡ filled rs i (sub_of d)
   filled_inner {i} f q r d = filled_skip i (omega (arith, at_longer d, at_within d)) (sub_of d) (λ v. not_rec rs i i f (free_encloses d i v).form_is_rec q r refl)
 
   -- the right-hand form of an or
-  pub filled_right : {i r j : ℕ} → form_at rs i ≡ Or r → At rs (suc i) r → (e : At rs r j) → filled rs r (sub_of e) ≡ filled rs i (sub_of e)
+  pub filled_right : {i r j : ℕ} → form_at rs i ≡ Some (Or r) → At rs (suc i) r → (e : At rs r j) → filled rs r (sub_of e) ≡ filled rs i (sub_of e)
   filled_right {i} {r} {j} q d e =
       let l : suc i < r = at_longer d in
       let same : i + (r - i) ≡ r = omega arith in
@@ -136,7 +136,7 @@ module _ (rs : List Record) (laid : LaidOut rs) (bound : Bound rs) where
       apart : (x : ℕ) → i ≤ x → Free x (sub_of e) → ⊥
       apart x lo v =
           let b = free_encloses e x v in
-          omega (arith, (outer_right rs x i r d b (not_rec rs x i (Or r) b.form_is_rec q refl)).before)
+          omega (arith, (outer_right rs x i r d b (not_rec rs x i (Some (Or r)) b.form_is_rec q refl)).before)
 
   encloses_around : (x i : ℕ) → i < length rs → Encloses rs x i → around rs x i ≡ true
   encloses_around x i h a =

@@ -1,11 +1,11 @@
 -- The subterm of a laid out form.
-use Rattle.std.proofs.Common.{◌≡◌, ℕ, zero, suc, ◌+◌, ◌≤◌, Bool, true, false, List, length, sym, ap, ◌∙◌, arith}
+use Rattle.std.proofs.Common.{Some, None, Option, ◌≡◌, ℕ, zero, suc, ◌+◌, ◌≤◌, Bool, true, false, List, length, sym, ap, ◌∙◌, arith}
 use Rattle.std.proofs.lemmas.Bool.{true≢false}
 use Rattle.formtable.specs.Layout.{form_at}
 use Rattle.formtable.specs.Places.{sub_in, subterm}
 use Rattle.formtable.specs.Terms.{Term, nil, prefix, sum, var, recur}
 use Rattle.formtable.specs.declared.record.Form.{Form}
-use Rattle.formtable.specs.declared.record.Form.TheVariants.{End, Do, Tau, Or, Rec, Go, Unknown}
+use Rattle.formtable.specs.declared.record.Form.TheVariants.{End, Do, Tau, Or, Rec, Go}
 use Rattle.formtable.specs.declared.record.Record.{Record}
 use Rattle.formtable.specs.Laid.{At, at_end, at_do, at_tau, at_or, at_rec, at_go, at_longer}
 use Rattle.formtable.specs.Steps.{at_within}
@@ -31,15 +31,15 @@ at_sub_in (at_go f) (suc n) h = rw f
 pub sub_is : {rs : List Record} {i j : ℕ} (d : At rs i j) → subterm rs i ≡ sub_of d
 sub_is {rs} d = at_sub_in d (length rs) (omega (arith, at_within d))
 
-abbrev is_go : Form → Bool
-is_go End = false
-is_go (Do a) = false
-is_go Tau = false
-is_go (Or r) = false
-is_go Rec = false
-is_go (Go k) = true
-is_go Unknown = false
+abbrev is_go : Option Form → Bool
+is_go (Some End) = false
+is_go (Some (Do a)) = false
+is_go (Some Tau) = false
+is_go (Some (Or r)) = false
+is_go (Some Rec) = false
+is_go (Some (Go k)) = true
+is_go None = false
 
 -- the place of a go is that of no other form
-pub not_go : (rs : List Record) (i j x : ℕ) (f : Form) → form_at rs i ≡ f → is_go f ≡ false → form_at rs j ≡ Go x → i ≡ j → ⊥
+pub not_go : (rs : List Record) (i j x : ℕ) (f : Option Form) → form_at rs i ≡ f → is_go f ≡ false → form_at rs j ≡ Some (Go x) → i ≡ j → ⊥
 not_go rs i j x f p n q e = true≢false (ap is_go (sym q) ∙ ap (λ (y : ℕ). is_go (form_at rs y)) (sym e) ∙ ap is_go p ∙ n)

@@ -1,14 +1,15 @@
 -- What a term writes, and what a laid out table is written by.
-use Rattle.std.proofs.Common.{◌≡◌, ℕ, zero, suc, ◌+◌, ◌<◌, ◌≤◌, true, ltb, leb, List, [], ◌∷◌, ◌++◌, length, sym, refl, ap, ◌∙◌, subst, ap₂, add-zero, add-suc, suc-add, arith, length-append}
+use Rattle.std.proofs.Common.{◌≡◌, ℕ, zero, suc, ◌+◌, ◌<◌, ◌≤◌, true, ltb, leb, List, [], ◌∷◌, ◌++◌, length, Some, sym, refl, ap, ◌∙◌, subst, ap₂, add-zero, add-suc, suc-add, arith, length-append}
 use Rattle.std.proofs.lemmas.Bool.{and_parts, and_from, eqb-true, eq-eqb, lt-ltb, le-leb, false≢true}
-use Rattle.formtable.specs.Kinds.{kind_of, row}
+use Rattle.std.proofs.lemmas.Option.{same_Some}
+use Rattle.std.specs.Option.{option_map}
+use Rattle.formtable.specs.Kinds.{kind_of, record_of, row}
 use Rattle.formtable.specs.Layout.{form_at}
 use Rattle.formtable.specs.Places.{term}
 use Rattle.formtable.specs.Terms.{Term, nil, prefix, sum, var, recur, Closed, Guarded}
 use Rattle.formtable.specs.Vet.{fits, allowed, all_allowed, laid_out, all_bound, all_guarded, is_at}
 use Rattle.formtable.specs.Written.{size, written, Placed, Writes}
-use Rattle.formtable.specs.declared.record.Form.{Form}
-use Rattle.formtable.specs.declared.record.Form.TheVariants.{End, Do, Tau, Or, Rec, Go, Unknown}
+use Rattle.formtable.specs.declared.record.Form.TheVariants.{Do, Or}
 use Rattle.formtable.specs.declared.record.Record.{Record}
 use Rattle.formtable.proofs.Free.{closed_passes}
 use Rattle.formtable.proofs.Guards.{guarded_passes}
@@ -136,22 +137,13 @@ module _ (rs : List Record) (t : Term) (w : Writes rs t) where
   pub writes_guarded : all_bound rs ≡ true → Guarded t → all_guarded rs ≡ true
   writes_guarded b g = guarded_passes rs (bound_of rs b) whole.0 (subst Guarded (sym whole.1) g)
 
--- the record of a form
-abbrev record_of : Form → Record
-record_of End = row 0 0
-record_of (Do a) = row 1 a
-record_of Tau = row 2 0
-record_of (Or r) = row 3 r
-record_of Rec = row 4 0
-record_of (Go k) = row 5 k
-record_of Unknown = row 6 0
-
-allowed_is : (k a : ℕ) → allowed (row k a) ≡ true → row k a ≡ record_of (kind_of k a)
-allowed_is zero a e = ap (row 0) (eqb-true a 0 e)
+-- an allowed record is that of its form
+allowed_is : (k a : ℕ) → allowed (row k a) ≡ true → Some (row k a) ≡ option_map record_of (kind_of k a)
+allowed_is zero a e = ap (λ n. Some (row 0 n)) (eqb-true a 0 e)
 allowed_is (suc zero) a e = refl
-allowed_is (suc (suc zero)) a e = ap (row 2) (eqb-true a 0 e)
+allowed_is (suc (suc zero)) a e = ap (λ n. Some (row 2 n)) (eqb-true a 0 e)
 allowed_is (suc (suc (suc zero))) a e = refl
-allowed_is (suc (suc (suc (suc zero)))) a e = ap (row 4) (eqb-true a 0 e)
+allowed_is (suc (suc (suc (suc zero)))) a e = ap (λ n. Some (row 4 n)) (eqb-true a 0 e)
 allowed_is (suc (suc (suc (suc (suc zero))))) a e = refl
 allowed_is (suc (suc (suc (suc (suc (suc n)))))) a e = absurd (false≢true e)
 
@@ -164,7 +156,7 @@ same_records (r ∷ rs) (q ∷ l) n s a b =
     let c = and_parts (allowed r) (all_allowed rs) a in
     let d = and_parts (allowed q) (all_allowed l) b in
     ap₂ ◌∷◌
-    (allowed_is r.kind r.argument c.0 ∙ ap record_of s.0 ∙ sym (allowed_is q.kind q.argument d.0))
+    (same_Some r q (allowed_is r.kind r.argument c.0 ∙ ap (option_map record_of) s.0 ∙ sym (allowed_is q.kind q.argument d.0)))
     (same_records rs l (omega arith) (stands_before r rs 0 l s.1) c.1 d.1)
 
 -- a laid out table of allowed records is what its term writes
@@ -185,7 +177,7 @@ module _ (rs : List Record) (known : all_allowed rs ≡ true) where
   placed_is (at_rec f d) = (refl, placed_is d)
   placed_is (at_go f) = tt
 
-  stands_do : (a i : ℕ) (t : Term) → 1 ≤ a → form_at rs i ≡ Do a → Stands rs (suc i) (written (suc i) t) → Stands rs i (written i (prefix a t))
+  stands_do : (a i : ℕ) (t : Term) → 1 ≤ a → form_at rs i ≡ Some (Do a) → Stands rs (suc i) (written (suc i) t) → Stands rs i (written i (prefix a t))
   stands_do zero i t l f s = absurd (omega arith)
   stands_do (suc a) i t l f s = (f, s)
 
@@ -195,7 +187,7 @@ module _ (rs : List Record) (known : all_allowed rs ≡ true) where
   stands_is (at_tau f d) = (f, stands_is d)
   stands_is (at_or {i = i} {r = r} f d e) =
       let n = size_is d in (
-        f ∙ ap Or (sym n),
+        subst (λ (k : ℕ). form_at rs i ≡ Some (Or k)) (sym n) f,
         stands_both rs (suc i) (written (suc i) (sub_of d)) (written (suc i + size (sub_of d)) (sub_of e)) (stands_is d)
             (subst (λ (k : ℕ). Stands rs (suc i + k) (written (suc i + size (sub_of d)) (sub_of e))) (sym (written_long (sub_of d) (suc i)))
             (subst (λ (k : ℕ). Stands rs k (written k (sub_of e))) (sym n) (stands_is e))),

@@ -1,5 +1,5 @@
 -- A vetted table keeps the limits of a process.
-use Rattle.std.specs.Prelude.{◌≡◌, ℕ, ◌<◌, ◌≤◌, true, List, length, refl}
+use Rattle.std.specs.Prelude.{Some, None, Option, ◌≡◌, ℕ, ◌<◌, ◌≤◌, true, List, length}
 use Rattle.std.proofs.Common.{sym, subst, ⊎_elim, arith}
 use Rattle.std.proofs.lemmas.Bool.{cases_lt}
 use Rattle.process.specs.Meaning.{HasMove, Limits, Steps}
@@ -8,7 +8,7 @@ use Rattle.formtable.specs.Layout.{form_at, moves, Near}
 use Rattle.formtable.specs.Meaning.{process}
 use Rattle.formtable.specs.Vet.{vetted}
 use Rattle.formtable.specs.declared.record.Form.{Form}
-use Rattle.formtable.specs.declared.record.Form.TheVariants.{End, Do, Tau, Or, Rec, Go, Unknown}
+use Rattle.formtable.specs.declared.record.Form.TheVariants.{End, Do, Tau, Or, Rec, Go}
 use Rattle.formtable.specs.declared.record.Record.{Record}
 use Rattle.formtable.specs.Motions.{do_below, motions_known, targets_within}
 use Rattle.formtable.specs.Steps.{inside, known_within, moves_there, moves_few, moves_outside}
@@ -52,17 +52,17 @@ pub vetted_limits : (rs : List Record) → vetted rs ≡ true → Limits (proces
 vetted_limits rs ok = formed_limits rs (vetted_formed rs ok).0
 
 -- the motions and places that the code casts are small
-pub vetted_near : (rs : List Record) (i : ℕ) → vetted rs ≡ true → (f : Form) → f ≡ form_at rs i → Near i f
+pub vetted_near : (rs : List Record) (i : ℕ) → vetted rs ≡ true → (f : Option Form) → f ≡ form_at rs i → Near i f
 vetted_near rs i ok f is = near f is
   where
     w : Formed rs
     w = (vetted_formed rs ok).0
 
-    near : (f : Form) → f ≡ form_at rs i → Near i f
-    near End q = tt
-    near (Do a) q = ((do_below rs i a w.known (sym q)).1, omega (arith, w.few, known_within rs i (Do a) (sym q) refl))
-    near Tau q = omega (arith, w.few, known_within rs i Tau (sym q) refl)
-    near (Or r) q = tt
-    near Rec q = omega (arith, w.few, known_within rs i Rec (sym q) refl)
-    near (Go k) q = omega (arith, w.few, (w.bound i k (sym q)).1, known_within rs i (Go k) (sym q) refl)
-    near Unknown q = tt
+    near : (f : Option Form) → f ≡ form_at rs i → Near i f
+    near (Some End) q = tt
+    near (Some (Do a)) q = ((do_below rs i a w.known (sym q)).1, omega (arith, w.few, known_within rs i (Do a) (sym q)))
+    near (Some Tau) q = omega (arith, w.few, known_within rs i Tau (sym q))
+    near (Some (Or r)) q = tt
+    near (Some Rec) q = omega (arith, w.few, known_within rs i Rec (sym q))
+    near (Some (Go k)) q = omega (arith, w.few, (w.bound i k (sym q)).1, known_within rs i (Go k) (sym q))
+    near None q = tt

@@ -5,21 +5,21 @@ use Rattle.std.proofs.lemmas.Bool.{eqb-true, eq-eqb, cases_lt, ltb-true, false�
 use Rattle.process.specs.declared.moves.Move.{Move}
 use Rattle.formtable.specs.Layout.{form_at, past, past_in, past_with, or_past, at_right, moves_in, move_to, reaches}
 use Rattle.formtable.specs.declared.record.Form.{Form}
-use Rattle.formtable.specs.declared.record.Form.TheVariants.{End, Do, Tau, Or, Rec, Go, Unknown}
+use Rattle.formtable.specs.declared.record.Form.TheVariants.{End, Do, Tau, Or, Rec, Go}
 use Rattle.formtable.specs.declared.record.Record.{Record}
 
 -- the form at i is laid out, and j is the place after it
 pub data At (rs : List Record) : ℕ → ℕ → Type 0 where
-  at_end : {i : ℕ} → form_at rs i ≡ End → At rs i (suc i)
-  at_do : {i a j : ℕ} → form_at rs i ≡ Do a → At rs (suc i) j → At rs i j
-  at_tau : {i j : ℕ} → form_at rs i ≡ Tau → At rs (suc i) j → At rs i j
-  at_or : {i r j : ℕ} → form_at rs i ≡ Or r → At rs (suc i) r → At rs r j → At rs i j
-  at_rec : {i j : ℕ} → form_at rs i ≡ Rec → At rs (suc i) j → At rs i j
-  at_go : {i k : ℕ} → form_at rs i ≡ Go k → At rs i (suc i)
+  at_end : {i : ℕ} → form_at rs i ≡ Some End → At rs i (suc i)
+  at_do : {i a j : ℕ} → form_at rs i ≡ Some (Do a) → At rs (suc i) j → At rs i j
+  at_tau : {i j : ℕ} → form_at rs i ≡ Some Tau → At rs (suc i) j → At rs i j
+  at_or : {i r j : ℕ} → form_at rs i ≡ Some (Or r) → At rs (suc i) r → At rs r j → At rs i j
+  at_rec : {i j : ℕ} → form_at rs i ≡ Some Rec → At rs (suc i) j → At rs i j
+  at_go : {i k : ℕ} → form_at rs i ≡ Some (Go k) → At rs i (suc i)
 
 -- each go names a rec around it
 abbrev pub Bound : List Record → Type 0
-Bound rs = (j k : ℕ) → form_at rs j ≡ Go k → (form_at rs k ≡ Rec) × (k < j) × ((p : ℕ) × (past rs k ≡ Some p) × (j < p))
+Bound rs = (j k : ℕ) → form_at rs j ≡ Some (Go k) → (form_at rs k ≡ Some Rec) × (k < j) × ((p : ℕ) × (past rs k ≡ Some p) × (j < p))
 
 pub some_inj : {a b : ℕ} → Some a ≡ Some b → a ≡ b
 some_inj e = cc
@@ -35,7 +35,7 @@ at_to : {rs : List Record} {i j k : ℕ} → j ≡ k → At rs i j → At rs i k
 at_to {rs} {i} e d = subst (λ x. At rs i x) e d
 
 module _ (rs : List Record) (next : ℕ → Option ℕ) (ih : (p j : ℕ) → next p ≡ Some j → At rs p j) (i j : ℕ) where
-  at_or_past : (r : ℕ) (o : Option ℕ) → form_at rs i ≡ Or r → next (suc i) ≡ o → or_past next r o ≡ Some j → At rs i j
+  at_or_past : (r : ℕ) (o : Option ℕ) → form_at rs i ≡ Some (Or r) → next (suc i) ≡ o → or_past next r o ≡ Some j → At rs i j
   at_or_past r None f q e = absurd (none_some e)
   at_or_past r (Some p) f q e = here (p == r) refl e
     where
@@ -43,14 +43,14 @@ module _ (rs : List Record) (next : ℕ → Option ℕ) (ih : (p j : ℕ) → ne
       here true s e' = at_or f (at_to (eqb-true p r s) (ih (suc i) p q)) (ih r j e')
       here false s e' = absurd (none_some e')
 
-  at_by : (f : Form) → form_at rs i ≡ f → past_with next i f ≡ Some j → At rs i j
-  at_by End f e = at_to (some_inj e) (at_end f)
-  at_by (Do a) f e = at_do f (ih (suc i) j e)
-  at_by Tau f e = at_tau f (ih (suc i) j e)
-  at_by (Or r) f e = at_or_past r (next (suc i)) f refl e
-  at_by Rec f e = at_rec f (ih (suc i) j e)
-  at_by (Go k) f e = at_to (some_inj e) (at_go f)
-  at_by Unknown f e = absurd (none_some e)
+  at_by : (f : Option Form) → form_at rs i ≡ f → past_with next i f ≡ Some j → At rs i j
+  at_by (Some End) f e = at_to (some_inj e) (at_end f)
+  at_by (Some (Do a)) f e = at_do f (ih (suc i) j e)
+  at_by (Some Tau) f e = at_tau f (ih (suc i) j e)
+  at_by (Some (Or r)) f e = at_or_past r (next (suc i)) f refl e
+  at_by (Some Rec) f e = at_rec f (ih (suc i) j e)
+  at_by (Some (Go k)) f e = at_to (some_inj e) (at_go f)
+  at_by None f e = absurd (none_some e)
 
 pub past_in_at : (n : ℕ) (rs : List Record) (i j : ℕ) → past_in n rs i ≡ Some j → At rs i j
 past_in_at zero rs i j e = absurd (none_some e)

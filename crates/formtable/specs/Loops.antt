@@ -1,67 +1,58 @@
--- What the loops of vetting need of `each`, `some` and `all_allowed`.
-use Rattle.std.specs.Prelude.{◌≡◌, ℕ, zero, suc, ◌+◌, ◌<◌, Bool, true, false, ◌&&◌, ◌||◌, List, [], ◌∷◌, ◌++◌, length, take, drop, slice_index_or, slice_set, refl}
-use Rattle.std.proofs.Common.{sym, ap, ◌∙◌, ⊎_elim, arith, add-one, drop-cons}
-use Rattle.std.proofs.lemmas.List.{take_more, take_more_set}
-use Rattle.std.proofs.lemmas.Bool.{and_parts, and_from, and_left, and_right, or_left, or_right, or_from, cases_lt, false≢true, true≢false}
-use Rattle.formtable.specs.Vet.{each, some, allowed, all_allowed}
-use Rattle.formtable.specs.declared.record.Record.{Record}
+-- What `each` and `some` say of single numbers.
+use Rattle.std.specs.Prelude.{◌≡◌, ℕ, suc, ◌<◌, Bool, true, false, ◌&&◌, ◌||◌, List, [], ◌∷◌, length, refl}
+use Rattle.std.specs.List.{list_all, list_any, range_with_len}
+use Rattle.std.proofs.Common.{sym, ap, ◌∙◌, subst, arith, get_or}
+use Rattle.std.proofs.lemmas.List.Folds.{list_any_at}
+use Rattle.std.proofs.lemmas.List.FromFn.{length-range_with_len, get_or-range_with_len}
+use Rattle.std.proofs.lemmas.List.Recursion.{and_at, and_from_places}
+use Rattle.std.proofs.lemmas.Bool.{false≢true, true≢false}
+use Rattle.formtable.specs.Vet.{each, some}
 
-pub each_fails : (p : ℕ → Bool) (n i : ℕ) → i < n → p i ≡ false → each p n ≡ false
-each_fails p zero i h e = absurd (omega arith)
-each_fails p (suc n) i h e =
-    ⊎_elim {C = each p n && p n ≡ false}
-    (λ l. and_left (each p n) (p n) (each_fails p n i l e))
-    (λ l. and_right (each p n) (p n) (let same : n ≡ i = omega arith in ap p same ∙ e))
-    (cases_lt i n)
+-- the numbers below n, from 0 on
+abbrev below : ℕ → List ℕ
+below n = range_with_len 0 n
 
-pub each_more : (p : ℕ → Bool) (i : ℕ) → each p i ≡ true → p i ≡ true → each p (i + 1) ≡ true
-each_more p i h e = rw add-one (and_from (each p i) (p i) h e)
+module _ (p : ℕ → Bool) (n : ℕ) where
+  there : (i : ℕ) → i < n → get_or (below n) i 0 ≡ i
+  there i h = let at = get_or-range_with_len 0 n i 0 h in omega arith
 
-pub some_holds : (p : ℕ → Bool) (n i : ℕ) → i < n → p i ≡ true → some p n ≡ true
-some_holds p zero i h e = absurd (omega arith)
-some_holds p (suc n) i h e =
-    ⊎_elim {C = some p n || p n ≡ true}
-    (λ l. or_left (some p n) (p n) (some_holds p n i l e))
-    (λ l. or_right (some p n) (p n) (let same : n ≡ i = omega arith in ap p same ∙ e))
-    (cases_lt i n)
+  inside : (i : ℕ) → i < n → i < length (below n)
+  inside i h = omega (arith, length-range_with_len 0 n)
 
-pub some_more : (p : ℕ → Bool) (i : ℕ) → some p i ≡ false → p i ≡ false → some p (i + 1) ≡ false
-some_more p i h e = rw add-one (or_from (some p i) (p i) h e)
+  pub each_at : (i : ℕ) → i < n → each p n ≡ true → p i ≡ true
+  each_at i h e = ap p (sym (there i h)) ∙ and_at (list_all p) p refl (λ _ _. refl) (below n) i 0 (inside i h) e
 
-pub allowed_step : (rs : List Record) (i : ℕ) (d : Record) → i < length rs → all_allowed (drop i rs) ≡ allowed (slice_index_or rs i d) && all_allowed (drop (i + 1) rs)
-allowed_step rs i d h = rw add-one (ap all_allowed (drop-cons rs i d h))
+  pub each_all : ((i : ℕ) → i < n → p i ≡ true) → each p n ≡ true
+  each_all all =
+      and_from_places (list_all p) p refl (λ _ _. refl) (below n) 0
+      (λ i h. let l : i < n = omega (arith, length-range_with_len 0 n) in ap p (there i l) ∙ all i l)
 
--- one more record copied
-pub copy_more : (rs raw : List Record) (i : ℕ) (d : Record) → i < length rs → i < length raw → take i rs ≡ take i raw → take (i + 1) (slice_set rs i (slice_index_or raw i d)) ≡ take (i + 1) raw
-copy_more rs raw i d h k e = take_more_set rs i (slice_index_or raw i d) h ∙ ap (λ (l : List Record). l ++ slice_index_or raw i d ∷ []) e ∙ sym (take_more raw i d k)
+  pub some_holds : (i : ℕ) → i < n → p i ≡ true → some p n ≡ true
+  some_holds i h e = list_any_at p (below n) i 0 (inside i h) (ap p (there i h) ∙ e)
 
-pub each_at : (p : ℕ → Bool) (n i : ℕ) → i < n → each p n ≡ true → p i ≡ true
-each_at p zero i h e = absurd (omega arith)
-each_at p (suc n) i h e =
-    let b = and_parts (each p n) (p n) e in
-    ⊎_elim {C = p i ≡ true}
-    (λ l. each_at p n i l b.0)
-    (λ l. let same : i ≡ n = omega arith in ap p same ∙ b.1)
-    (cases_lt i n)
+  -- the number at a place is below n
+  found : {P : ℕ → Type 0} → (i : ℕ) × (i < length (below n)) × P (get_or (below n) i 0) → (i : ℕ) × (i < n) × P i
+  found {P} f =
+      let l : f.0 < n = omega (arith, length-range_with_len 0 n, f.1) in (f.0, l, subst P (there f.0 l) f.2)
 
-pub each_all : (p : ℕ → Bool) (n : ℕ) → ((i : ℕ) → i < n → p i ≡ true) → each p n ≡ true
-each_all p zero h = refl
-each_all p (suc n) h = and_from (each p n) (p n) (each_all p n (λ i l. h i (omega arith))) (h n (omega arith))
+some_place : (p : ℕ → Bool) (xs : List ℕ) → list_any p xs ≡ true → (i : ℕ) × (i < length xs) × (p (get_or xs i 0) ≡ true)
+some_place p [] e = absurd (false≢true e)
+some_place p (x ∷ xs) e = here (p x) refl e (some_place p xs)
+  where
+    here : (b : Bool) → p x ≡ b → (b || list_any p xs) ≡ true → (list_any p xs ≡ true → (i : ℕ) × (i < length xs) × (p (get_or xs i 0) ≡ true)) → (i : ℕ) × (i < suc (length xs)) × (p (get_or (x ∷ xs) i 0) ≡ true)
+    here true q s k = (0, omega arith, q)
+    here false q s k = let v = k s in (suc v.0, omega (arith, v.1), v.2)
+
+not_place : (p : ℕ → Bool) (xs : List ℕ) → list_all p xs ≡ false → (i : ℕ) × (i < length xs) × (p (get_or xs i 0) ≡ false)
+not_place p [] e = absurd (true≢false e)
+not_place p (x ∷ xs) e = here (p x) refl e (not_place p xs)
+  where
+    here : (b : Bool) → p x ≡ b → (b && list_all p xs) ≡ false → (list_all p xs ≡ false → (i : ℕ) × (i < length xs) × (p (get_or xs i 0) ≡ false)) → (i : ℕ) × (i < suc (length xs)) × (p (get_or (x ∷ xs) i 0) ≡ false)
+    here true q s k = let v = k s in (suc v.0, omega (arith, v.1), v.2)
+    here false q s k = (0, omega arith, q)
 
 pub some_at : (p : ℕ → Bool) (n : ℕ) → some p n ≡ true → (i : ℕ) × (i < n) × (p i ≡ true)
-some_at p zero e = absurd (false≢true e)
-some_at p (suc n) e = here (λ q. some_at p n q) (some p n) refl (p n) refl e
-  where
-    here : (some p n ≡ true → (i : ℕ) × (i < n) × (p i ≡ true)) → (a : Bool) → some p n ≡ a → (b : Bool) → p n ≡ b → (a || b) ≡ true → (i : ℕ) × (i < suc n) × (p i ≡ true)
-    here k true q b r s = let v = k q in (v.0, omega (arith, v.1), v.2)
-    here k false q true r s = (n, omega arith, r)
-    here k false q false r s = absurd (false≢true s)
+some_at p n e = found p n {P = λ i. p i ≡ true} (some_place p (below n) e)
 
 pub each_not : (p : ℕ → Bool) (n : ℕ) → each p n ≡ false → (i : ℕ) × (i < n) × (p i ≡ false)
-each_not p zero e = absurd (true≢false e)
-each_not p (suc n) e = here (λ q. each_not p n q) (each p n) refl (p n) refl e
-  where
-    here : (each p n ≡ false → (i : ℕ) × (i < n) × (p i ≡ false)) → (a : Bool) → each p n ≡ a → (b : Bool) → p n ≡ b → (a && b) ≡ false → (i : ℕ) × (i < suc n) × (p i ≡ false)
-    here k false q b r s = let v = k q in (v.0, omega (arith, v.1), v.2)
-    here k true q false r s = (n, omega arith, r)
-    here k true q true r s = absurd (true≢false s)
+each_not p n e = found p n {P = λ i. p i ≡ false} (not_place p (below n) e)

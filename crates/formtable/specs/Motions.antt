@@ -1,5 +1,5 @@
 -- The motions and the targets of the moves of a table.
-use Rattle.std.specs.Prelude.{◌≡◌, ℕ, zero, suc, ◌<◌, ◌≤◌, true, ◌⊎◌, List, [], ◌∷◌, ◌++◌, length, nat_le, nat_lt, refl}
+use Rattle.std.specs.Prelude.{Some, ◌≡◌, ℕ, zero, suc, ◌<◌, ◌≤◌, true, ◌⊎◌, List, [], ◌∷◌, ◌++◌, length, nat_le, nat_lt}
 use Rattle.std.proofs.Common.{sym, ap, ◌∙◌, inl, inr, ⊎_elim, arith}
 use Rattle.std.proofs.lemmas.Bool.{and_parts, leb-true, ltb-true}
 use Rattle.process.specs.Meaning.{HasMove}
@@ -34,7 +34,7 @@ has_one m a t (inl h) = h
 has_one m a t (inr h) = absurd h
 
 -- the argument of a do is its motion
-do_argument : (k a m : ℕ) → kind_of k a ≡ Do m → m ≡ a
+do_argument : (k a m : ℕ) → kind_of k a ≡ Some (Do m) → m ≡ a
 do_argument zero a m e = let z : ◌≡◌ {A = ℕ} 0 1 = cc in absurd (omega arith)
 do_argument (suc zero) a m e = cc
 do_argument (suc (suc zero)) a m e = let z : ◌≡◌ {A = ℕ} 0 1 = cc in absurd (omega arith)
@@ -43,14 +43,14 @@ do_argument (suc (suc (suc (suc zero)))) a m e = let z : ◌≡◌ {A = ℕ} 0 1
 do_argument (suc (suc (suc (suc (suc zero))))) a m e = let z : ◌≡◌ {A = ℕ} 0 1 = cc in absurd (omega arith)
 do_argument (suc (suc (suc (suc (suc (suc n)))))) a m e = let z : ◌≡◌ {A = ℕ} 0 1 = cc in absurd (omega arith)
 
-do_known : (r : Record) (m : ℕ) → allowed r ≡ true → kind_of r.kind r.argument ≡ Do m → (1 ≤ m) × (m ≤ 24)
+do_known : (r : Record) (m : ℕ) → allowed r ≡ true → kind_of r.kind r.argument ≡ Some (Do m) → (1 ≤ m) × (m ≤ 24)
 do_known r m ok e =
     let p = and_parts (nat_lt 0 r.argument) (nat_le r.argument 24) (ap (allowed_by r.argument) (sym e) ∙ ok) in
     let q = do_argument r.kind r.argument m e in
     (omega (arith, ltb-true 0 r.argument p.0, q), omega (arith, leb-true r.argument 24 p.1, q))
 
 -- the motion of a do in a table of allowed records
-pub do_below : (rs : List Record) (i m : ℕ) → all_allowed rs ≡ true → form_at rs i ≡ Do m → (1 ≤ m) × (m ≤ 24)
+pub do_below : (rs : List Record) (i m : ℕ) → all_allowed rs ≡ true → form_at rs i ≡ Some (Do m) → (1 ≤ m) × (m ≤ 24)
 do_below [] i m ok e = let z : ◌≡◌ {A = ℕ} 0 1 = cc in absurd (omega arith)
 do_below (r ∷ rs) zero m ok e = do_known r m (and_parts (allowed r) (all_allowed rs) ok).0 e
 do_below (r ∷ rs) (suc i) m ok e = do_below rs i m (and_parts (allowed r) (all_allowed rs) ok).1 e
@@ -72,4 +72,4 @@ targets_within rs bound (at_tau f d) a t m = omega (arith, at_longer d, at_withi
 targets_within rs bound (at_or f d e) a t m =
     ⊎_elim {C = t < length rs} (λ n. targets_within rs bound d a t n) (λ n. targets_within rs bound e a t n) (has_cases (moves_of d) (moves_of e) a t m)
 targets_within rs bound (at_rec f d) a t m = omega (arith, at_longer d, at_within d, (has_one _ a t m).1)
-targets_within rs bound (at_go {i = i} {k = k} f) a t m = omega (arith, (bound i k f).1, known_within rs i (Go k) f refl, (has_one _ a t m).1)
+targets_within rs bound (at_go {i = i} {k = k} f) a t m = omega (arith, (bound i k f).1, known_within rs i (Go k) f, (has_one _ a t m).1)

@@ -1,21 +1,21 @@
 -- The term of each place of a form table.
-use Rattle.std.specs.Prelude.{ℕ, zero, suc, Bool, cond, ◌&&◌, List, length}
+use Rattle.std.specs.Prelude.{Some, None, Option, ℕ, zero, suc, Bool, cond, ◌&&◌, List, length}
 use Rattle.formtable.specs.Kinds.{is_rec}
 use Rattle.formtable.specs.Layout.{form_at, past, reaches}
 use Rattle.formtable.specs.Terms.{Term, nil, prefix, sum, var, recur, put}
 use Rattle.formtable.specs.declared.record.Form.{Form}
-use Rattle.formtable.specs.declared.record.Form.TheVariants.{End, Do, Tau, Or, Rec, Go, Unknown}
+use Rattle.formtable.specs.declared.record.Form.TheVariants.{End, Do, Tau, Or, Rec, Go}
 use Rattle.formtable.specs.declared.record.Record.{Record}
 
 -- the subterm that the form at i writes, by those of its inner forms; a recursion's variable is its place
-abbrev pub sub_by : (ℕ → Term) → ℕ → Form → Term
-sub_by next i End = nil
-sub_by next i (Do a) = prefix a (next (suc i))
-sub_by next i Tau = prefix 0 (next (suc i))
-sub_by next i (Or r) = sum (next (suc i)) (next r)
-sub_by next i Rec = recur i (next (suc i))
-sub_by next i (Go k) = var k
-sub_by next i Unknown = nil
+abbrev pub sub_by : (ℕ → Term) → ℕ → Option Form → Term
+sub_by next i (Some End) = nil
+sub_by next i (Some (Do a)) = prefix a (next (suc i))
+sub_by next i (Some Tau) = prefix 0 (next (suc i))
+sub_by next i (Some (Or r)) = sum (next (suc i)) (next r)
+sub_by next i (Some Rec) = recur i (next (suc i))
+sub_by next i (Some (Go k)) = var k
+sub_by next i None = nil
 
 -- the same within n levels of forms
 abbrev pub sub_in : ℕ → List Record → ℕ → Term

@@ -6,7 +6,7 @@ use Rattle.formtable.specs.Kinds.{is_rec}
 use Rattle.formtable.specs.Layout.{form_at, past, reaches, LaidOut}
 use Rattle.formtable.specs.Vet.{vetted, verdict, unless, fits, all_allowed, laid_out, all_bound, all_guarded, is_at, bound_by}
 use Rattle.formtable.specs.declared.record.Form.{Form}
-use Rattle.formtable.specs.declared.record.Form.TheVariants.{End, Do, Tau, Or, Rec, Go, Unknown}
+use Rattle.formtable.specs.declared.record.Form.TheVariants.{End, Do, Tau, Or, Rec, Go}
 use Rattle.formtable.specs.declared.record.Record.{Record}
 use Rattle.formtable.specs.Laid.{Bound, reaches_over}
 use Rattle.formtable.specs.Steps.{known_within, Both, both}
@@ -16,14 +16,14 @@ pub is_at_some : (n : ℕ) (o : Option ℕ) → is_at n o ≡ true → o ≡ Som
 is_at_some n None e = absurd (false≢true e)
 is_at_some n (Some p) e = ap Some (eqb-true p n e)
 
-form_is_rec : (f : Form) → is_rec f ≡ true → f ≡ Rec
-form_is_rec End e = absurd (false≢true e)
-form_is_rec (Do a) e = absurd (false≢true e)
-form_is_rec Tau e = absurd (false≢true e)
-form_is_rec (Or r) e = absurd (false≢true e)
-form_is_rec Rec e = refl
-form_is_rec (Go k) e = absurd (false≢true e)
-form_is_rec Unknown e = absurd (false≢true e)
+form_is_rec : (f : Option Form) → is_rec f ≡ true → f ≡ Some Rec
+form_is_rec (Some End) e = absurd (false≢true e)
+form_is_rec (Some (Do a)) e = absurd (false≢true e)
+form_is_rec (Some Tau) e = absurd (false≢true e)
+form_is_rec (Some (Or r)) e = absurd (false≢true e)
+form_is_rec (Some Rec) e = refl
+form_is_rec (Some (Go k)) e = absurd (false≢true e)
+form_is_rec None e = absurd (false≢true e)
 
 -- the first test by the length
 pub fits_length : (rs : List Record) → fits rs ≡ true → (0 < length rs) × (length rs ≤ 64)
@@ -42,7 +42,7 @@ pub record Formed (rs : List Record) : Type 0 where
 module _ (rs : List Record) where
   pub bound_of : all_bound rs ≡ true → Bound rs
   bound_of ok j k q =
-      let at = ap (bound_by rs j) (sym q) ∙ each_at (λ i. bound_by rs i (form_at rs i)) (length rs) j (known_within rs j (Go k) q refl) ok in
+      let at = ap (bound_by rs j) (sym q) ∙ each_at (λ i. bound_by rs i (form_at rs i)) (length rs) j (known_within rs j (Go k) q) ok in
       let a = and_parts (is_rec (form_at rs k) && nat_lt k j) (reaches j (past rs k)) at in
       let b = and_parts (is_rec (form_at rs k)) (nat_lt k j) a.0 in
       (form_is_rec (form_at rs k) b.0, ltb-true k j b.1, reaches_over j (past rs k) a.1)
@@ -175,9 +175,6 @@ length_misfits rs k = here (fits rs) refl k
     here true e (inl z) = absurd (omega (arith, (fits_length rs e).0, z))
     here true e (inr z) = absurd (omega (arith, (fits_length rs e).1, z))
 
-pub vetted_laid : (rs : List Record) → vetted rs ≡ true → LaidOut rs
-vetted_laid rs ok = (vetted_formed rs ok).0.laid
-
 -- an or of a vetted table
-pub vetted_both : (rs : List Record) (i r : ℕ) → vetted rs ≡ true → Or r ≡ form_at rs i → Both rs i r × (length rs ≤ 64)
+pub vetted_both : (rs : List Record) (i r : ℕ) → vetted rs ≡ true → Some (Or r) ≡ form_at rs i → Both rs i r × (length rs ≤ 64)
 vetted_both rs i r ok is = let w = (vetted_formed rs ok).0 in (both rs i r w.laid is, w.few)

@@ -1,32 +1,27 @@
 // Where the forms of a table end, and the moves of their places.
-ghost use Rattle.std.specs.Prelude.{◌≡◌, true, [], length};
+ghost use Rattle.std.specs.Prelude.{◌≡◌, true, [], Some, length};
 ghost use Rattle.std.specs.List.{slice_get};
 ghost use Rattle.formtable.specs.Layout.{Near, form_at, moves, moves_by};
 ghost use Rattle.formtable.specs.Layout.{past as past_of};
 ghost use Rattle.formtable.specs.Vet.{vetted};
 
 use crate::record::{Form, Record};
-use process::Move;
+use process::{Move, SILENT};
 
-// The form that the record at place i says: Unknown where no record stands.
-pub fn form_at(table: &[Record], i: usize) -> Form
+// Kept: each function takes the records and a place of its own; a struct round the one slice would only rename it.
+
+// The form that the record at place i says: None where no record stands, or one of a kind that is not known.
+pub fn form_at(table: &[Record], i: usize) -> Option<Form>
     ensures { result ≡ form_at table.now i }
 {
-    if i < table.len() {
-        table[i].form()
-    } else {
-        Form::Unknown
-    }
+    table.get(i).and_then(|r| Form::try_from(*r).ok())
 }
 
 // The place after the form at i; None where it is not laid out well.
 pub fn past(table: &[Record], i: usize) -> Option<usize>
     ensures { result ≡ past_of table.now i }
 {
-    if i >= table.len() {
-        return None;
-    }
-    match form_at(table, i) {
+    match form_at(table, i)? {
         Form::End | Form::Go(_) => Some(i + 1),
         Form::Do(_) | Form::Tau | Form::Rec => past(table, i + 1),
         Form::Or(r) => {
@@ -36,7 +31,6 @@ pub fn past(table: &[Record], i: usize) -> Option<usize>
             }
             past(table, left)
         }
-        Form::Unknown => None,
     }
 }
 
@@ -46,9 +40,9 @@ pub fn count(table: &[Record], i: usize) -> u8
     ensures { result ≡ length (moves table.now i) }
 {
     match form_at(table, i) {
-        Form::End | Form::Unknown => 0,
-        Form::Do(_) | Form::Tau | Form::Rec | Form::Go(_) => 1,
-        Form::Or(r) => count(table, i + 1) + count(table, r as usize),
+        None | Some(Form::End) => 0,
+        Some(Form::Or(r)) => count(table, i + 1) + count(table, r as usize),
+        Some(_) => 1,
     }
 }
 
@@ -57,7 +51,7 @@ pub fn nth_move(table: &[Record], i: usize, k: u8) -> Option<Move>
     requires { vetted table.now ≡ true }
     ensures { result ≡ slice_get (moves table.now i) k }
 {
-    match form_at(table, i) {
+    match form_at(table, i)? {
         Form::Or(r) => {
             let left = count(table, i + 1);
             if k < left {
@@ -72,26 +66,17 @@ pub fn nth_move(table: &[Record], i: usize, k: u8) -> Option<Move>
 
 // The move of a form at i that is no or: None where it has none.
 fn only_move(form: Form, i: usize) -> Option<Move>
-    requires { Near i form }
-    ensures { result ≡ slice_get (moves_by (λ _. []) i form) 0 }
+    requires { Near i (Some form) }
+    ensures { result ≡ slice_get (moves_by (λ _. []) i (Some form)) 0 }
 {
-    match form {
-        Form::Do(a) => Some(Move {
-            motion: a as u8,
-            target: i as u8 + 1,
-        }),
-        Form::Tau => Some(Move {
-            motion: 0,
-            target: i as u8 + 1,
-        }),
-        Form::Rec => Some(Move {
-            motion: 0,
-            target: i as u8 + 1,
-        }),
-        Form::Go(k) => Some(Move {
-            motion: 0,
-            target: k as u8 + 1,
-        }),
-        Form::End | Form::Or(_) | Form::Unknown => None,
-    }
+    let (motion, next) = match form {
+        Form::Do(a) => (a as u8, i + 1),
+        Form::Tau | Form::Rec => (SILENT, i + 1),
+        Form::Go(k) => (SILENT, k as usize + 1),
+        Form::End | Form::Or(_) => return None,
+    };
+    Some(Move {
+        motion,
+        target: next as u8,
+    })
 }

@@ -1,11 +1,16 @@
 // The records of a form table.
-ghost use Rattle.std.specs.Prelude.{◌≡◌};
-ghost use Rattle.formtable.specs.Kinds.{is_do, is_rec, kind_of};
+ghost use Rattle.std.specs.Prelude.{◌≡◌, ok_or};
+ghost use Rattle.formtable.specs.declared.fault.FormFault.TheVariants.{Kind};
+ghost use Rattle.formtable.specs.Kinds.{kind_of, record_of};
 
-// How many records a table can have.
-pub const RECORDS: usize = 64;
+use crate::fault::FormFault;
+use process::MAX_STATES;
+
+// How many records a table can have: each is a state.
+pub const RECORDS: usize = MAX_STATES as usize;
 
 // A record: a kind and an argument.
+// Kept: a record is raw input, in which any number may stand for a kind; what it says is a Form.
 #[derive(Clone, Copy, Debug, PartialEq, Eq)]
 pub struct Record {
     pub kind: u8,
@@ -13,6 +18,7 @@ pub struct Record {
 }
 
 // What a record says: Do has a motion, Or the place of its right-hand form, Go the place of its rec.
+// Kept: forms name one another by place, since a table is a list of records of a stated format.
 #[derive(Clone, Copy, Debug, PartialEq, Eq)]
 pub enum Form {
     End,
@@ -21,7 +27,6 @@ pub enum Form {
     Or(u16),
     Rec,
     Go(u16),
-    Unknown,
 }
 
 impl Record {
@@ -30,41 +35,40 @@ impl Record {
         kind: 0,
         argument: 0,
     };
+}
 
-    // The form that the record says by its kind.
-    pub fn form(self) -> Form
-        ensures { result ≡ kind_of self.kind self.argument }
-    {
-        match self.kind {
-            0 => Form::End,
-            1 => Form::Do(self.argument),
-            2 => Form::Tau,
-            3 => Form::Or(self.argument),
-            4 => Form::Rec,
-            5 => Form::Go(self.argument),
-            _ => Form::Unknown,
+// The form that a record says by its kind, if that is known.
+impl TryFrom<Record> for Form {
+    type Error = FormFault;
+
+    ghost try_from_gives = { λ r f. f ≡ ok_or (kind_of r.kind r.argument) Kind };
+
+    fn try_from(record: Record) -> Result<Form, FormFault> {
+        match record.kind {
+            0 => Ok(Form::End),
+            1 => Ok(Form::Do(record.argument)),
+            2 => Ok(Form::Tau),
+            3 => Ok(Form::Or(record.argument)),
+            4 => Ok(Form::Rec),
+            5 => Ok(Form::Go(record.argument)),
+            _ => Err(FormFault::Kind),
         }
     }
 }
 
-impl Form {
-    // Is the form a rec?
-    pub(crate) fn is_rec(self) -> bool
-        ensures { result ≡ is_rec self }
-    {
-        match self {
-            Form::Rec => true,
-            _ => false,
-        }
-    }
+// The record that says a form.
+impl From<Form> for Record {
+    ghost from_gives = { λ form r. r ≡ record_of form };
 
-    // Is the form a do?
-    pub(crate) fn is_do(self) -> bool
-        ensures { result ≡ is_do self }
-    {
-        match self {
-            Form::Do(_) => true,
-            _ => false,
-        }
+    fn from(form: Form) -> Record {
+        let (kind, argument) = match form {
+            Form::End => (0, 0),
+            Form::Do(motion) => (1, motion),
+            Form::Tau => (2, 0),
+            Form::Or(right) => (3, right),
+            Form::Rec => (4, 0),
+            Form::Go(place) => (5, place),
+        };
+        Record { kind, argument }
     }
 }

@@ -7,6 +7,7 @@ use crate::record::{RECORDS, Record};
 pub mod methods;
 
 // A table whose first len records have passed vetting.
+// Kept: the device has no heap, so a table of any length lies in fixed memory.
 #[derive(Drop)]
 pub struct FormTable {
     records: [Record; RECORDS],

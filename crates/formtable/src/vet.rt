@@ -1,38 +1,33 @@
 // The tests of vetting.
-ghost use Rattle.std.specs.Prelude.{◌≡◌};
+ghost use Rattle.std.specs.Prelude.{◌≡◌, ℕ, Bool};
 ghost use Rattle.common.specs.Faults.{numbered};
 ghost use Rattle.formtable.specs.Faults.{form_number};
-ghost use Rattle.formtable.specs.Layout.{form_at, reaches};
+ghost use Rattle.formtable.specs.Layout.{reaches};
 ghost use Rattle.formtable.specs.Layout.{past as past_of};
-ghost use Rattle.formtable.specs.Vet.{all_allowed, all_bound, all_guarded, bound_by, fits as fitting, guarded_by, guards, laid_out, some, verdict};
+ghost use Rattle.formtable.specs.Vet.{all_allowed, bound, each_go, fits as fitting, guarded, laid_out, verdict};
 ghost use Rattle.formtable.specs.Vet.{allowed as allowed_record};
 
 use crate::fault::FormFault;
 use crate::layout::{form_at, past};
 use crate::record::{Form, RECORDS, Record};
-
-// The highest motion.
-const MOTIONS: u16 = 24;
+use process::LAST_MOTION;
 
 // Are there 1 to 64 records?
 fn fits(raw: &[Record]) -> bool
     ensures { result ≡ fitting raw.now }
 {
-    raw.len() > 0 && raw.len() <= RECORDS
+    !raw.is_empty() && raw.len() <= RECORDS
 }
 
 // Is the record's kind known, and its argument allowed?
 fn allowed(r: Record) -> bool
     ensures { result ≡ allowed_record r }
 {
-    match r.form() {
-        Form::End => r.argument == 0,
-        Form::Do(_) => r.argument > 0 && r.argument <= MOTIONS,
-        Form::Tau => r.argument == 0,
-        Form::Or(_) => true,
-        Form::Rec => r.argument == 0,
-        Form::Go(_) => true,
-        Form::Unknown => false,
+    match Form::try_from(r) {
+        Ok(Form::End | Form::Tau | Form::Rec) => r.argument == 0,
+        Ok(Form::Do(motion)) => (1..=u16::from(LAST_MOTION)).contains(&motion),
+        Ok(Form::Or(_) | Form::Go(_)) => true,
+        Err(_) => false,
     }
 }
 
@@ -40,98 +35,48 @@ fn allowed(r: Record) -> bool
 fn all_allowed(raw: &[Record]) -> bool
     ensures { result ≡ all_allowed raw.now }
 {
-    for r in raw {
-        if !allowed(*r) {
-            return false;
-        }
-    }
-    true
+    raw.iter().all(|r| allowed(*r))
 }
 
 // Is the table laid out well?
 fn laid_out(raw: &[Record]) -> bool
     ensures { result ≡ laid_out raw.now }
 {
-    match past(raw, 0) {
-        Some(p) => p == raw.len(),
-        None => false,
-    }
+    past(raw, 0) == Some(raw.len())
 }
 
 // Does the form at d stand over j, for d before j?
 fn over(raw: &[Record], d: usize, j: usize) -> bool
     ensures { result ≡ reaches j (past_of raw.now d) }
 {
-    match past(raw, d) {
-        Some(p) => j < p,
-        None => false,
-    }
+    past(raw, d).is_some_and(|p| j < p)
 }
 
-// If a go stands at j, does it name a rec around it?
-fn bound_at(raw: &[Record], j: usize) -> bool
-    ensures { result ≡ bound_by raw.now j (form_at raw.now j) }
+// Does each go pass the test, by its place and the place that it names?
+fn each_go<F: Fn(usize, usize) -> bool>(raw: &[Record], test: F) -> bool
+    ghost passes: { ℕ → ℕ → Bool }
+    requires callable { F.IsAlwaysCallable test }
+    requires computes { (j k : ℕ) (b : Bool) → F.post test j k b → b ≡ passes j k }
+    ensures { result ≡ each_go passes raw.now }
 {
-    match form_at(raw, j) {
-        Form::Go(k) => {
-            let k = k as usize;
-            form_at(raw, k).is_rec() && k < j && over(raw, k, j)
-        }
+    (0..raw.len()).all(|j| match form_at(raw, j) {
+        Some(Form::Go(k)) => test(j, k as usize),
         _ => true,
-    }
+    })
 }
 
-// Does every go name a rec around it?
-fn all_bound(raw: &[Record]) -> bool
-    ensures { result ≡ all_bound raw.now }
+// Does the go at j name a rec around it by the place k?
+fn bound(raw: &[Record], j: usize, k: usize) -> bool
+    ensures { result ≡ bound raw.now j k }
 {
-    for j in 0..raw.len() {
-        if !bound_at(raw, j) {
-            return false;
-        }
-    }
-    true
+    form_at(raw, k) == Some(Form::Rec) && k < j && over(raw, k, j)
 }
 
-// Is the form at d a do behind k that stands over j?
-fn guards_at(raw: &[Record], k: usize, j: usize, d: usize) -> bool
-    ensures { result ≡ guards raw.now k j d }
+// Does some do between the rec at k and the go at j stand over the go?
+fn guarded(raw: &[Record], j: usize, k: usize) -> bool
+    ensures { result ≡ guarded raw.now j k }
 {
-    k < d && form_at(raw, d).is_do() && over(raw, d, j)
-}
-
-// Does some do between k and j stand over j?
-fn guarded(raw: &[Record], k: usize, j: usize) -> bool
-    ensures { result ≡ some (guards raw.now k j) j }
-{
-    for d in 0..j {
-        if guards_at(raw, k, j, d) {
-            return true;
-        }
-    }
-    false
-}
-
-// If a go stands at j, is it guarded?
-fn guarded_at(raw: &[Record], j: usize) -> bool
-    ensures { result ≡ guarded_by raw.now j (form_at raw.now j) }
-{
-    match form_at(raw, j) {
-        Form::Go(k) => guarded(raw, k as usize, j),
-        _ => true,
-    }
-}
-
-// Is every go guarded?
-fn all_guarded(raw: &[Record]) -> bool
-    ensures { result ≡ all_guarded raw.now }
-{
-    for j in 0..raw.len() {
-        if !guarded_at(raw, j) {
-            return false;
-        }
-    }
-    true
+    (0..j).any(|d| k < d && matches!(form_at(raw, d), Some(Form::Do(_))) && over(raw, d, j))
 }
 
 // The first test that a table fails.
@@ -147,10 +92,10 @@ pub fn tested(raw: &[Record]) -> Result<(), FormFault>
     if !laid_out(raw) {
         return Err(FormFault::Layout);
     }
-    if !all_bound(raw) {
+    if !each_go(raw, |j, k| bound(raw, j, k)) {
         return Err(FormFault::Unbound);
     }
-    if !all_guarded(raw) {
+    if !each_go(raw, |j, k| guarded(raw, j, k)) {
         return Err(FormFault::Unguarded);
     }
     Ok(())

@@ -1,7 +1,6 @@
 pub mod Scans
-pub mod Turns
-pub mod Passing
+pub mod Keys
+pub mod Judging
 pub mod Deciding
-pub mod Refusing
 pub mod Soundness
 pub mod Plain

@@ -1,6 +1,7 @@
 -- The plain way to follow the permit keeps the laws of After, so that the gate is exact and sound with it.
-use Rattle.std.proofs.Common.{◌≡◌, ℕ, ◌<◌, Bool, true, false, ◌↔◌, List, [], sym, refl, ◌∙◌, subst}
+use Rattle.std.proofs.Common.{◌≡◌, ℕ, ◌<◌, ◌↔◌, List, [], sym, ◌∙◌, subst}
 use Rattle.std.proofs.lemmas.Bool.{eqb-true, eq-eqb}
+use Rattle.std.proofs.lemmas.Bool.Decides.{same_from_decides}
 use Rattle.process.proofs.Bits.{in_only, only_in, some_in, ext}
 use Rattle.process.specs.Meaning.{Proc, Limits}
 use Rattle.process.specs.Runs.{Run, nothing}
@@ -11,17 +12,12 @@ use Rattle.gate.specs.Follow.{AfterLaws, plain}
 use Rattle.gate.specs.Gate.{Verdict, accepted, refused, gate, Certifies}
 use Rattle.gate.specs.Refusals.{Refused}
 use Rattle.gate.specs.Theorems.{Included, GateHolds}
-use Rattle.gate.proofs.Refusing.{refuses_exact}
+use Rattle.gate.proofs.Judging.{refuses_exact}
 use Rattle.gate.proofs.Soundness.{laws_suffice}
 
-both_imply : (x y : Bool) → (x ≡ true → y ≡ true) → (y ≡ true → x ≡ true) → x ≡ y
-both_imply true y f g = sym (f refl)
-both_imply false true f g = g refl
-both_imply false false f g = refl
-
 -- sets that lie within each other are the same
-pub same_sets : (S T : ℕ) → Within S T → Within T S → S ≡ T
-same_sets S T f g = ext S T (λ t. both_imply (has S t) (has T t) (f t) (g t))
+same_sets : (S T : ℕ) → Within S T → Within T S → S ≡ T
+same_sets S T f g = ext S T (λ t. same_from_decides (has S t) (has T t) (λ e. e, λ e. e) (g t, f t))
 
 -- a set that is not empty and lies within {0} is {0}
 is_first : (S : ℕ) → 0 < S → Within S (only 0) → S ≡ only 0

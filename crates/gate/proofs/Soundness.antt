@@ -6,48 +6,10 @@ use Rattle.process.specs.Sets.{In}
 use Rattle.certificate.specs.declared.Row.{Row}
 use Rattle.reach.proofs.Reaching.{run_append}
 use Rattle.gate.specs.Follow.{Follow, AfterLaws}
-use Rattle.gate.specs.Gate.{Member, fits, covered, Justifies, Certifies}
-use Rattle.gate.specs.Refusals.{RowFits, AllFit, HasAnswer, RowAnswered}
+use Rattle.gate.specs.Gate.{Member, accepted, Justifies, Certifies}
+use Rattle.gate.specs.Refusals.{AllFit, HasAnswer}
 use Rattle.gate.specs.Theorems.{Included, GateExact, GateSound, RowsSound, LawsSuffice}
-use Rattle.gate.proofs.Deciding.{sized_decides, fits_decides, start_decides, covered_decides, every, none_fails}
-use Rattle.gate.proofs.Passing.{Passed, passed_of, passed_from}
-
-module _ (F : Follow) (A : AfterLaws F) (plan permit : Proc) (L : Limits plan) (M : Limits permit) (rows : List Row) where
-  certifies : Passed F plan permit rows → Certifies F plan permit rows
-  certifies P =
-      record {
-        any_row = ((sized_decides rows).0 P.formed.size).0;
-        few_rows = ((sized_decides rows).0 P.formed.size).1;
-        justifies = record {
-          states_exist = λ r m. (all r m).state_exists;
-          some_state = λ r m. (all r m).some_state;
-          sets_fit = λ r m. (all r m).set_fits;
-          start_row = (start_decides F A plan permit M rows all).0 P.formed.start;
-          moves_answered = every (covered F plan permit rows) (RowAnswered F plan permit rows) (covered_decides F plan permit L rows) 0 rows P.cover;
-        };
-      }
-    where
-      all : AllFit plan permit rows
-      all = every (fits plan permit) (RowFits plan permit) (fits_decides plan permit) 0 rows P.formed.fit
-
-  passes : Certifies F plan permit rows → Passed F plan permit rows
-  passes C =
-      record {
-        formed = record {
-          size = (sized_decides rows).1 (C.any_row, C.few_rows);
-          fit = none_fails (fits plan permit) (RowFits plan permit) (fits_decides plan permit) 0 rows all;
-          start = (start_decides F A plan permit M rows all).1 C.justifies.start_row;
-        };
-        cover = none_fails (covered F plan permit rows) (RowAnswered F plan permit rows) (covered_decides F plan permit L rows) 0 rows C.justifies.moves_answered;
-      }
-    where
-      all : AllFit plan permit rows
-      all r m =
-          record {
-            state_exists = C.justifies.states_exist r m;
-            some_state = C.justifies.some_state r m;
-            set_fits = C.justifies.sets_fit r m;
-          }
+use Rattle.gate.proofs.Judging.{Says, gate_says, accepts}
 
 module _ (F : Follow) (A : AfterLaws F) (plan permit : Proc) (M : Limits permit) (rows : List Row) (J : Justifies F plan permit rows) where
   -- a run of the plan from what a row's state silently reaches is a run of the permit from a state of the row's set
@@ -74,9 +36,26 @@ module _ (F : Follow) (A : AfterLaws F) (plan permit : Proc) (M : Limits permit)
 
 pub gate_exact : (F : Follow) → AfterLaws F → GateExact F
 gate_exact F A plan permit L M rows = (
-  λ e. certifies F A plan permit L M rows (passed_of F plan permit rows e),
-  λ C. passed_from F plan permit rows (passes F A plan permit L M rows C),
+  λ e. certifies (subst (Says F A plan permit L M rows) e (gate_says F A plan permit L M rows)),
+  λ C. accepts F A plan permit L M rows (C.any_row, C.few_rows) (all C.justifies) C.justifies.start_row C.justifies.moves_answered,
 )
+  where
+    certifies : Says F A plan permit L M rows accepted → Certifies F plan permit rows
+    certifies P =
+        record {
+          any_row = P.0.0;
+          few_rows = P.0.1;
+          justifies = record {
+            states_exist = λ r m. (P.1 r m).state_exists;
+            some_state = λ r m. (P.1 r m).some_state;
+            sets_fit = λ r m. (P.1 r m).set_fits;
+            start_row = P.2;
+            moves_answered = P.3;
+          };
+        }
+
+    all : Justifies F plan permit rows → AllFit plan permit rows
+    all J r m = record { state_exists = J.states_exist r m; some_state = J.some_state r m; set_fits = J.sets_fit r m }
 
 pub rows_sound : (F : Follow) → AfterLaws F → RowsSound F
 rows_sound F A plan permit L M rows J = justified F A plan permit M rows J

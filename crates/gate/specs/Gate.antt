@@ -1,5 +1,6 @@
 -- The gate: what a certificate must be.
-use Rattle.std.specs.Prelude.{◌≡◌, ℕ, suc, ◌^◌, ◌<◌, ◌≤◌, Bool, true, false, ◌&&◌, ◌⊎◌, List, [], ◌∷◌, length, Some, None, Option, ◌==◌, nat_le, nat_lt}
+use Rattle.std.specs.Prelude.{◌≡◌, ℕ, ◌^◌, ◌<◌, ◌≤◌, Bool, true, false, not, ◌&&◌, ◌⊎◌, List, [], ◌∷◌, length, Some, None, Option, ◌==◌, nat_le, nat_lt}
+use Rattle.std.specs.List.{list_any, list_all, position}
 use Rattle.process.specs.Meaning.{Proc, Steps}
 use Rattle.process.specs.Runs.{Run}
 use Rattle.process.specs.Sets.{within, In, Within}
@@ -13,20 +14,9 @@ pub data Verdict : Type 0 where
   accepted : Verdict
   refused : ℕ → ℕ → Verdict
 
--- the place of the first row that fails the test, where the first of the rows stands at i
-abbrev pub first_bad : (Row → Bool) → ℕ → List Row → Option ℕ
-first_bad f i [] = None
-first_bad f i (r ∷ rs) = elim (f r) [ true ↦ first_bad f (suc i) rs | false ↦ Some i ]
-
--- some row passes the test
-abbrev pub some_row : (Row → Bool) → List Row → Bool
-some_row f [] = false
-some_row f (r ∷ rs) = elim (f r) [ true ↦ true | false ↦ some_row f rs ]
-
--- every move passes the test
-abbrev pub all_moves : (Move → Bool) → List Move → Bool
-all_moves f [] = true
-all_moves f (m ∷ ms) = elim (f m) [ true ↦ all_moves f ms | false ↦ false ]
+-- the place of the first row that fails the test
+abbrev pub first_bad : (Row → Bool) → List Row → Option ℕ
+first_bad f rows = position (λ r. not (f r)) rows
 
 -- 43: from 1 to 1,024 rows
 abbrev pub sized : List Row → Bool
@@ -49,27 +39,27 @@ abbrev pub answered : Follow → Proc → List Row → ℕ → Move → Bool
 answered F permit rows T m =
     elim (m.motion == 0) [
       | true ↦ true
-      | false ↦ let A = F.after permit T m.motion in some_row (answers m.target A) rows
+      | false ↦ let A = F.after permit T m.motion in list_any (answers m.target A) rows
     ]
 
 -- every move of a state in the silent reach of the row's state is so
 abbrev pub covered : Follow → Proc → Proc → List Row → Row → Bool
-covered F plan permit rows r = all_moves (answered F permit rows r.set.bits) (offers plan r.state)
+covered F plan permit rows r = list_all (answered F permit rows r.set.bits) (offers plan r.state)
 
 -- the tests 43, 44 and 45, each over all rows before the next
 abbrev pub first_tests : Follow → Proc → Proc → List Row → Verdict
 first_tests F plan permit rows =
     elim (sized rows) [
       | false ↦ refused 43 0
-      | true ↦ elim (first_bad (fits plan permit) 0 rows) [
+      | true ↦ elim (first_bad (fits plan permit) rows) [
         | Some i ↦ refused 44 i
-        | None ↦ elim (some_row (starts F permit) rows) [ false ↦ refused 45 0 | true ↦ accepted ]
+        | None ↦ elim (list_any (starts F permit) rows) [ false ↦ refused 45 0 | true ↦ accepted ]
       ]
     ]
 
 -- the test 46
 abbrev pub last_test : Follow → Proc → Proc → List Row → Verdict
-last_test F plan permit rows = elim (first_bad (covered F plan permit rows) 0 rows) [ Some i ↦ refused 46 i | None ↦ accepted ]
+last_test F plan permit rows = elim (first_bad (covered F plan permit rows) rows) [ Some i ↦ refused 46 i | None ↦ accepted ]
 
 -- all tests, in order
 abbrev pub gate : Follow → Proc → Proc → List Row → Verdict

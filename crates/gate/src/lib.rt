@@ -2,14 +2,12 @@
 #![tactic(auto)]
 
 pub mod admission;
-mod cover;
+mod claim;
 pub mod fault;
-pub mod shape;
 pub mod theorems;
 
-pub use admission::check;
+pub use admission::{check, first_tests};
 pub use fault::CertificateFault;
-pub use shape::first_tests;
 
 #[cfg(test)]
 mod tests;

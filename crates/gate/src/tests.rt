@@ -45,21 +45,18 @@ fn row(state: u8, bits: u64) -> Row {
     Row {
         state,
         set: StateSet { bits },
-        back: 0,
-        by: 0,
+        ..Row::empty()
     }
 }
 
 // The gate refuses the rows by the number, at the place.
 fn refused(rt: &impl Abort, rows: &[Row], number: u8, place: usize) -> Result<(), Fail> {
-    match gate_check(&Yard, &Yard, rows) {
-        Ok(()) => Err(Fail::new("accepted")),
-        Err(at) => {
-            assert_eq!(rt; at.fault.number(), number);
-            assert_eq!(rt; at.place, place);
-            Ok(())
-        }
-    }
+    let Err(at) = gate_check(&Yard, &Yard, rows) else {
+        return Err(Fail::new("accepted"));
+    };
+    assert_eq!(rt; at.fault.number(), number);
+    assert_eq!(rt; at.place, place);
+    Ok(())
 }
 
 #[test]

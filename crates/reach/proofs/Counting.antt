@@ -1,74 +1,75 @@
 -- How many states below a bound a set has, and whether a test passes below a bound.
-use Rattle.std.proofs.Common.{◌≡◌, ℕ, zero, suc, ◌<◌, ◌≤◌, Bool, true, false, ◌⊎◌, subst, inl, inr, ⊎_elim, suc-le-suc, le_refl, arith}
+use Rattle.std.proofs.Common.{◌≡◌, ℕ, zero, suc, ◌+◌, ◌<◌, ◌≤◌, Bool, true, false, ◌||◌, ◌⊎◌, Decides, refl, ap, subst, inl, inr, ⊎_elim, le_refl, arith}
 use native.Mathlib.Nat.{le_step}
-use Rattle.std.proofs.lemmas.Bool.{both_ways, cases_lt, cases_Bool}
-use Rattle.process.proofs.Bits.{pick}
+use Rattle.std.proofs.lemmas.Bool.{cases_lt, cases_Bool, false_from_ne_true}
+use Rattle.std.proofs.lemmas.Bool.Decides.{Decides-below_or, not_from_Decides}
 use Rattle.process.specs.Sets.{has, In}
+
+abbrev one_if : Bool → ℕ
+one_if true = 1
+one_if false = 0
+
+most_one : (b : Bool) → one_if b ≤ 1
+most_one true = omega arith
+most_one false = omega arith
+
+one_mono : (b c : Bool) → (b ≡ true → c ≡ true) → one_if b ≤ one_if c
+one_mono true c h = omega (arith, ap one_if (h refl))
+one_mono false c h = omega arith
+
+is_one : (b : Bool) → 1 ≤ one_if b → b ≡ true
+is_one true h = refl
+is_one false h = absurd (omega arith)
 
 -- the states below k of the set T, counted
 unfoldable pub count : ℕ → ℕ → ℕ
 count zero T = 0
-count (suc k) T = elim (has T k) [ true ↦ suc (count k T) | false ↦ count k T ]
+count (suc k) T = one_if (has T k) + count k T
 
 count_mono : (k S T : ℕ) → ((u : ℕ) → u < k → In S u → In T u) → count k S ≤ count k T
 unfolding count
 count_mono zero S T h = omega arith
 count_mono (suc k) S T h =
-    let ih = count_mono k S T (λ u l. h u (le_step l)) in
-    pick (has S k) (suc (count k S)) (count k S) (λ z. z ≤ count (suc k) T)
-    (λ s. pick (has T k) (suc (count k T)) (count k T) (λ z. suc (count k S) ≤ z)
-    (λ t. suc-le-suc ih) (λ t. absurd (both_ways (has T k) t (h k (le_refl (suc k)) s))))
-    (λ s. pick (has T k) (suc (count k T)) (count k T) (λ z. count k S ≤ z) (λ t. le_step ih) (λ t. ih))
+    omega (arith, count_mono k S T (λ u l. h u (le_step l)), one_mono (has S k) (has T k) (h k (le_refl (suc k))))
 
 pub count_more : (k S T v : ℕ) → ((u : ℕ) → u < k → In S u → In T u) → v < k → has S v ≡ false → In T v → count k S < count k T
 unfolding count
 count_more zero S T v h l no' yes' = absurd (omega arith)
-count_more (suc k) S T v h l no' yes' =
-    ⊎_elim (λ g. now (count_more k S T v (λ u l'. h u (le_step l')) g no' yes')) later (cases_lt v k)
+count_more (suc k) S T v h l no' yes' = ⊎_elim (λ g. now (count_more k S T v (λ u l'. h u (le_step l')) g no' yes')) later (cases_lt v k)
   where
-    mono : count k S ≤ count k T
-    mono = count_mono k S T (λ u l. h u (le_step l))
+    now : count k S < count k T → count (suc k) S < count (suc k) T
+    now ih = omega (arith, ih, one_mono (has S k) (has T k) (h k (le_refl (suc k))))
 
     later : k ≤ v → count (suc k) S < count (suc k) T
     later g =
         let same : v ≡ k = omega arith in
-        pick (has S k) (suc (count k S)) (count k S) (λ z. z < count (suc k) T)
-        (λ s. absurd (both_ways (has S k) (subst (λ (x : ℕ). has S x ≡ false) same no') s))
-        (λ s. pick (has T k) (suc (count k T)) (count k T) (λ z. count k S < z)
-        (λ t. suc-le-suc mono) (λ t. absurd (both_ways (has T k) t (subst (λ (x : ℕ). In T x) same yes'))))
+        let none : one_if (has S k) ≡ 0 = subst (λ x. one_if (has S x) ≡ 0) same (ap one_if no') in
+        let one : one_if (has T k) ≡ 1 = subst (λ x. one_if (has T x) ≡ 1) same (ap one_if yes') in
+        omega (arith, count_mono k S T (λ u l. h u (le_step l)))
 
-    now : count k S < count k T → count (suc k) S < count (suc k) T
-    now ih =
-        pick (has S k) (suc (count k S)) (count k S) (λ z. z < count (suc k) T)
-        (λ s. pick (has T k) (suc (count k T)) (count k T) (λ z. suc (count k S) < z)
-        (λ t. suc-le-suc ih) (λ t. absurd (both_ways (has T k) t (h k (le_refl (suc k)) s))))
-        (λ s. pick (has T k) (suc (count k T)) (count k T) (λ z. count k S < z) (λ t. le_step ih) (λ t. ih))
-
-pub count_le : (k T : ℕ) → count k T ≤ k
+count_le : (k T : ℕ) → count k T ≤ k
 unfolding count
 count_le zero T = omega arith
-count_le (suc k) T =
-    pick (has T k) (suc (count k T)) (count k T) (λ z. z ≤ suc k) (λ t. suc-le-suc (count_le k T)) (λ t. le_step (count_le k T))
+count_le (suc k) T = omega (arith, most_one (has T k), count_le k T)
 
 pub count_full : (k T : ℕ) → k ≤ count k T → (u : ℕ) → u < k → In T u
 unfolding count
 count_full zero T h u l = absurd (omega arith)
-count_full (suc k) T h u l =
-    pick (has T k) (suc (count k T)) (count k T) (λ z. suc k ≤ z → In T u)
-    (λ e g. ⊎_elim (λ l'. count_full k T (omega arith) u l') (λ l'. subst (λ (x : ℕ). In T x) (same l') e) (cases_lt u k))
-    (λ e g. absurd (omega (arith, count_le k T)))
-    h
+count_full (suc k) T h u l = ⊎_elim (λ l'. count_full k T (omega (arith, most_one (has T k))) u l') last (cases_lt u k)
   where
-    same : k ≤ u → k ≡ u
-    same l' = omega arith
+    last : k ≤ u → In T u
+    last l' =
+        let same : k ≡ u = omega arith in
+        subst (In T) same (is_one (has T k) (omega (arith, count_le k T)))
 
 -- a test over the numbers below n passes somewhere or nowhere
+
+abbrev passes_below : (ℕ → Bool) → ℕ → Bool
+passes_below f zero = false
+passes_below f (suc n) = f n || passes_below f n
+
 pub find : (n : ℕ) (f : ℕ → Bool) → ((v : ℕ) × (v < n) × (f v ≡ true)) ⊎ ((v : ℕ) → v < n → f v ≡ false)
-find zero f = inr (λ v l. absurd (omega arith))
-find (suc n) f = ⊎_elim (λ e. inl (n, le_refl (suc n), e)) (λ e. ⊎_elim (λ r. inl (r.0, le_step r.1, r.2)) (λ g. inr (all e g)) (find n f)) (cases_Bool (f n))
+find n f = ⊎_elim (λ e. inl (D.0 e)) (λ e. inr (λ v l. false_from_ne_true (f v) (λ t. not_from_Decides (passes_below f n) D e (v, l, t)))) (cases_Bool (passes_below f n))
   where
-    all : f n ≡ false → ((v : ℕ) → v < n → f v ≡ false) → (v : ℕ) → v < suc n → f v ≡ false
-    all e g v l = ⊎_elim (λ l'. g v l') (λ l'. subst (λ (x : ℕ). f x ≡ false) (same l') e) (cases_lt v n)
-      where
-        same : n ≤ v → n ≡ v
-        same l' = omega arith
+    D : Decides (passes_below f n) ((v : ℕ) × (v < n) × (f v ≡ true))
+    D = Decides-below_or f (λ v. f v ≡ true) (passes_below f) (λ v. (λ e. e, λ e. e)) refl (λ _. refl) n

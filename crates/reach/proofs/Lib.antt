@@ -4,3 +4,4 @@ pub mod Reaching
 pub mod Rounds
 pub mod Offering
 pub mod Follows
+pub mod Folding

@@ -3,37 +3,24 @@ ghost use Rattle.std.specs.Prelude.{◌≡◌, bit_or};
 ghost use Rattle.reach.specs.Laws.{Least, ReachExact, AfterExact, AfterLaws};
 ghost use Rattle.reach.specs.Reach.{targets, image, silent_reach, after as after_of};
 
-use process::{Process, StateSet};
-
-// The motion of a silent step.
-const SILENT: u8 = 0;
+use process::{Process, SILENT, StateSet, moves_of};
 
 // `onto` with the targets of state s by the motion.
 fn with_targets<P: Process>(p: &P, s: u8, motion: u8, onto: StateSet) -> StateSet
     ensures { result.bits ≡ bit_or onto.bits (targets motion ((P.meaning p.now).moves s)) }
 {
-    let mut all = onto;
-    for k in 0..p.degree(s) {
-        if let Some(m) = p.move_at(s, k) {
-            if m.motion == motion {
-                all = all.insert(m.target);
-            }
-        }
-    }
-    all
+    moves_of(p, s)
+        .filter(|m| m.motion == motion)
+        .fold(onto, |all, m| all.insert(m.target))
 }
 
 // `onto` with the targets of the states of `from` by the motion.
 fn with_image<P: Process>(p: &P, from: StateSet, motion: u8, onto: StateSet) -> StateSet
     ensures { result.bits ≡ bit_or onto.bits (image (P.meaning p.now) motion from.bits) }
 {
-    let mut all = onto;
-    for s in 0..p.states() {
-        if from.contains(s) {
-            all = with_targets(p, s, motion, all);
-        }
-    }
-    all
+    (0..p.states())
+        .filter(|s| from.contains(*s))
+        .fold(onto, |all, s| with_targets(p, s, motion, all))
 }
 
 // The states that silent steps reach from the set: round by round, until one adds nothing.
@@ -43,22 +30,15 @@ pub fn silent_reach<P: Process>(p: &P, set: StateSet) -> StateSet
     ensures exact { ReachExact (P.meaning p.now) set.bits result.bits }
 {
     let mut all = set;
-    for round in 0..p.states() {
+    // Kept: a fold over the rounds could not stop at the one that adds nothing.
+    for _round in 0..p.states() {
         let more = with_image(p, all, SILENT, all);
-        if more.bits == all.bits {
+        if more == all {
             return all;
         }
         all = more;
     }
     all
-}
-
-// The targets of the silent reach of the set by the motion.
-fn follow<P: Process>(p: &P, set: StateSet, motion: u8) -> StateSet
-    ensures { result.bits ≡ after_of (P.meaning p.now) set.bits motion }
-{
-    let from = silent_reach(p, set);
-    with_image(p, from, motion, StateSet::empty())
 }
 
 // After: the states that the motion leads to from the silent reach of the set.
@@ -67,5 +47,6 @@ pub fn after<P: Process>(p: &P, set: StateSet, motion: u8) -> StateSet
     ensures exact { AfterExact (P.meaning p.now) set.bits motion result.bits }
     ensures laws { AfterLaws (P.meaning p.now) set.bits motion result.bits }
 {
-    follow(p, set, motion)
+    let from = silent_reach(p, set);
+    with_image(p, from, motion, StateSet::empty())
 }

@@ -8,6 +8,7 @@ use process::{Move, Process, StateSet};
 use std::process::Abort;
 
 // State 0 steps in silence to state 1, which moves by motion 3 back to state 0.
+// Kept: the tests of search and controller have this process too, since a crate takes on no dependency for its tests alone.
 #[derive(Drop)]
 struct Shuttle;
 
@@ -65,13 +66,7 @@ impl<P: Process> Process for Wrapper<P> {
 
 // Does state s offer a move by the motion?
 fn offers_motion<P: Process>(p: &P, s: u8, motion: u8) -> bool {
-    let mut moves = Offers::of(p, s);
-    while let Some(m) = moves.next(p) {
-        if m.motion == motion {
-            return true;
-        }
-    }
-    false
+    Offers::of(p, s).any(|m| m.motion == motion)
 }
 
 // What every process with the moves of a Shuttle does.
@@ -102,18 +97,18 @@ fn wrapped(rt: HostRuntime) {
 fn in_order(rt: HostRuntime) {
     let mut moves = Offers::of(&Shuttle, 0);
     assert_eq!(rt;
-        moves.next(&Shuttle),
+        moves.next(),
         Some(Move {
             motion: 0,
             target: 1,
         })
     );
     assert_eq!(rt;
-        moves.next(&Shuttle),
+        moves.next(),
         Some(Move {
             motion: 3,
             target: 0,
         })
     );
-    assert_eq!(rt; moves.next(&Shuttle), None);
+    assert_eq!(rt; moves.next(), None);
 }

@@ -1,5 +1,5 @@
 pub mod Faults
 pub mod Rows
-pub mod Grouped
-pub mod Table
 pub mod Tables
+pub mod Vetted
+pub mod Table

@@ -1,5 +1,6 @@
 -- What a row table means, and which tables pass vetting.
-use Rattle.std.specs.Prelude.{ℕ, Bool, true, false, cond, ◌&&◌, List, [], ◌∷◌, length, Ok, Err, Result, ◌==◌, nat_le, nat_lt}
+use Rattle.std.specs.Prelude.{ℕ, Bool, true, false, ◌&&◌, List, [], map, filter, length, Ok, Err, Result, ◌==◌, nat_le, nat_lt}
+use Rattle.std.specs.List.{list_all}
 use Rattle.process.specs.Meaning.{Proc}
 use Rattle.process.specs.declared.moves.Move.{Move}
 use Rattle.rowtable.specs.declared.transition.Transition.{Transition}
@@ -10,8 +11,7 @@ move_of r = record { motion = r.motion; target = r.to }
 
 -- the moves of state s: its rows in order, repeats too
 abbrev pub moves_of : ℕ → List Transition → List Move
-moves_of s [] = []
-moves_of s (r ∷ rs) = cond (r.from == s) (move_of r ∷ moves_of s rs) (moves_of s rs)
+moves_of s rows = map move_of (filter (λ r. r.from == s) rows)
 
 -- the process that a table of n states writes
 abbrev pub table_meaning : ℕ → List Transition → Proc
@@ -27,8 +27,7 @@ ok_row n r = nat_lt r.from n && (nat_lt r.to n && nat_le r.motion 24)
 
 -- every row is so
 abbrev pub ok_rows : ℕ → List Transition → Bool
-ok_rows n [] = true
-ok_rows n (r ∷ rs) = ok_row n r && ok_rows n rs
+ok_rows n rows = list_all (ok_row n) rows
 
 -- the next test's answer where this one is passed, and this one's number where it is not
 abbrev pub unless : Bool → ℕ → Result (Unit {0}) ℕ → Result (Unit {0}) ℕ

@@ -2,10 +2,9 @@
 #![tactic(auto)]
 
 pub mod fault;
-mod index;
+mod rows;
 pub mod table;
 pub mod transition;
-mod vetting;
 
 pub use fault::RowFault;
 pub use table::RowTable;

@@ -1,24 +1,25 @@
 // The vetted row table.
 ghost use Rattle.std.specs.Prelude.{◌≡◌, ◌≤◌, true, take};
-ghost use Rattle.rowtable.specs.Grouped.{Front, Starts};
-ghost use Rattle.rowtable.specs.Rows.{vetted};
+ghost use Rattle.movetable.specs.Once.{same_once};
+ghost use Rattle.movetable.specs.Table.{meaning_of as moves_meaning};
+ghost use Rattle.rowtable.specs.Rows.{table_meaning, vetted};
 
-use crate::index::Index;
+use crate::rows::MAX_ROWS;
 use crate::transition::Transition;
+use movetable::MoveTable;
 
 pub mod as_process;
 mod methods;
 
-// A row table that has passed vetting, with the index of its rows.
+// A row table that has passed vetting, with the index of its rows: the moves of each state.
 #[derive(Drop)]
 pub struct RowTable {
     states: u8,
-    rows: [Transition; 255],
+    // Kept: the device has no heap, so the rows stand in an array of a fixed size, with their number.
+    rows: [Transition; MAX_ROWS],
     len: usize,
-    index: Index,
-    ghost few: { states ≤ 64 },
+    index: MoveTable<MAX_ROWS>,
     ghost short: { len ≤ 255 },
     ghost ok: { vetted states (take len rows) ≡ true },
-    ghost front: { Front index.moves states (take len rows) },
-    ghost begins: { Starts index.starts states (take len rows) },
+    ghost same: { moves_meaning index ≡ table_meaning states (take len rows) } by { same_once (moves_meaning index) (table_meaning states (take len rows)) },
 }

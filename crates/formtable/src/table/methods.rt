@@ -20,9 +20,7 @@ fn copied(raw: &[Record]) -> [Record; RECORDS]
     ensures { take (length raw.now) result ≡ raw.now }
 {
     let mut records = [Record::EMPTY; RECORDS];
-    for i in 0..raw.len() {
-        records[i] = raw[i];
-    }
+    records[..raw.len()].copy_from_slice(raw);
     records
 }
 
@@ -45,14 +43,6 @@ impl FormTable {
         ensures means { Meant (contents self.new) }
         ensures judged { Judged raw.now }
     {
-        self.take_over(raw)
-    }
-
-    // The same, with no word of terms.
-    fn take_over(&mut self, raw: &[Record]) -> Result<(), FormFault>
-        ensures answer { numbered form_number result ≡ verdict raw.now }
-        ensures after { contents self.new ≡ held (verdict raw.now) raw.now }
-    {
         *self = FormTable::new();
         tested(raw)?;
         *self = FormTable {
@@ -60,6 +50,13 @@ impl FormTable {
             len: raw.len(),
         };
         Ok(())
+    }
+
+    // The records that it holds.
+    fn records(&self) -> &[Record]
+        ensures { result.now ≡ contents self.now }
+    {
+        &self.records[..self.len]
     }
 }
 
@@ -73,10 +70,10 @@ impl Process for FormTable {
     }
 
     fn degree(&self, s: u8) -> u8 {
-        count(&self.records[0..self.len], s as usize)
+        count(self.records(), s as usize)
     }
 
     fn move_at(&self, s: u8, k: u8) -> Option<Move> {
-        nth_move(&self.records[0..self.len], s as usize, k)
+        nth_move(self.records(), s as usize, k)
     }
 }

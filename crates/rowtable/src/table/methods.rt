@@ -1,17 +1,16 @@
 // Vetting, and what a vetted table keeps.
-ghost use Rattle.std.specs.Prelude.{◌≡◌, ◌≤◌, length, take};
+ghost use Rattle.std.specs.Prelude.{◌≡◌};
 ghost use Rattle.common.specs.Faults.{numbered};
 ghost use Rattle.rowtable.specs.Faults.{row_number};
-ghost use Rattle.rowtable.specs.Grouped.{grouped};
 ghost use Rattle.rowtable.specs.Rows.{held, single, verdict};
-ghost use Rattle.rowtable.specs.Table.{contents, meaning_of};
+ghost use Rattle.rowtable.specs.Table.{contents};
+ghost use Rattle.rowtable.specs.Vetted.{written};
 
 use crate::fault::RowFault;
-use crate::index::Index;
+use crate::rows::{MAX_ROWS, Rows};
 use crate::table::RowTable;
 use crate::transition::Transition;
-use crate::vetting::tested;
-use process::Move;
+use movetable::MoveTable;
 
 // What stands where no row does.
 const BLANK: Transition = Transition {
@@ -20,18 +19,6 @@ const BLANK: Transition = Transition {
     to: 0,
 };
 
-// The rows at the front of an array.
-fn copied(rows: &[Transition]) -> [Transition; 255]
-    requires { length rows.now ≤ 255 }
-    ensures { take (length rows.now) result ≡ rows.now }
-{
-    let mut all = [BLANK; 255];
-    for i in 0..rows.len() {
-        all[i] = rows[i];
-    }
-    all
-}
-
 impl RowTable {
     // One state without rows.
     pub fn new() -> Self
@@ -39,9 +26,24 @@ impl RowTable {
     {
         RowTable {
             states: 1,
-            rows: [BLANK; 255],
+            rows: [BLANK; MAX_ROWS],
             len: 0,
-            index: Index::of(1, &[]),
+            index: MoveTable::new(),
+        }
+    }
+
+    // The table of the rows.
+    fn of(vetted: &Rows) -> Self
+        ensures { contents result ≡ written vetted.now }
+    {
+        let len = vetted.rows.len();
+        let mut rows = [BLANK; MAX_ROWS];
+        rows[..len].copy_from_slice(vetted.rows);
+        RowTable {
+            states: vetted.states,
+            rows,
+            len,
+            index: MoveTable::of(vetted),
         }
     }
 
@@ -51,34 +53,7 @@ impl RowTable {
         ensures after { contents self.new ≡ held (verdict states rows.now) states rows.now }
     {
         *self = RowTable::new();
-        tested(states, rows)?;
-        *self = RowTable {
-            states,
-            rows: copied(rows),
-            len: rows.len(),
-            index: Index::of(states, rows),
-        };
+        *self = RowTable::of(&Rows::vetted(states, rows)?);
         Ok(())
-    }
-
-    // Where the moves of s start in the index, and where those of the state before it end.
-    fn start(&self, s: u8) -> usize
-        requires { s ≤ self.now.states }
-        ensures { result ≡ length (grouped (contents self.now).rows s) }
-    {
-        self.index.starts[s as usize] as usize
-    }
-
-    // The moves of s, as they stand in the index.
-    pub(crate) fn moves_of(&self, s: u8) -> &[Move]
-        ensures moves { result.now ≡ (meaning_of self.now).moves s }
-        ensures short { length result.now ≤ 255 }
-    {
-        if s >= self.states {
-            return &self.index.moves[0..0];
-        }
-        let from = self.start(s);
-        let to = self.start(s + 1);
-        &self.index.moves[from..to]
     }
 }

@@ -1,4 +1,4 @@
-use Rattle.gate.proofs.Refusing.{refusals_told}
+use Rattle.gate.proofs.Judging.{refusals_told}
 use Rattle.gate.proofs.Soundness.{laws_suffice}
 use Rattle.gate.proofs.theorems.laws_suffice.Goals as goal
 

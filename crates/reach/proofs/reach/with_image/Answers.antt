@@ -1,16 +1,16 @@
-use Rattle.std.proofs.Common.{sym, ap, ◌∙◌}
-use lib.Bits.{or_zero_r}
-use Rattle.reach.proofs.Rounds.{image_yes, image_no}
+use Rattle.std.proofs.Common.{rules, tests, ap, ◌∙◌, arith}
+use Rattle.std.proofs.lemmas.Iterator.{YieldsList-from_range}
+use Rattle.std.proofs.lemmas.Iterator.Consumers.{YieldsList-from_filter, YieldsList-at, fold_from_yields_List}
+use Rattle.process.specs.Sets.{has}
+use Rattle.reach.proofs.Folding.{with_state, image_folded}
 use Rattle.reach.proofs.reach.with_image.Goals as goal
-use Rattle.reach.proofs.reach.with_image.Goals.{then-contains, else-contains}
 
-pub loop-s-init : goal.loop-s-init
-loop-s-init g c = sym (or_zero_r c.args.onto.bits)
-
-pub loop-s-preserved : goal.loop-s-preserved
-loop-s-preserved g c =
+pub returns : goal.returns
+returns g c =
     let p = g.P.Process.meaning c.args.p.now in
-    elim c.if-contains.branch [
-      | then-contains w ↦ ap (λ q. q.bits) w.all-is ∙ image_yes p _ _ _ _ _ _ w.if-contains.ensures c.loop-s.invariant w.with_targets-all.ensures
-      | else-contains w ↦ ap (λ q. q.bits) w.all-is ∙ image_no p _ _ _ _ _ w.if-contains.ensures c.loop-s.invariant
-    ]
+    ap (λ S. S.bits)
+    (fold_from_yields_List _ (with_state p c.args.motion) c.args.onto c.fold.result c.fold.ensures.ran
+    (YieldsList-from_filter _ (has c.args.from.bits) (YieldsList-at c.filter.ensures.source (YieldsList-from_range 0 p.states p.states (cc) (omega arith)))
+    c.filter.ensures.closure (λ s b q k. search (rules, tests)))
+    (λ S s T q k. search (rules, tests)))
+    ∙ image_folded p c.args.motion c.args.from.bits p.states c.args.onto

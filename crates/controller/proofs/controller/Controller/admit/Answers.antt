@@ -1,11 +1,15 @@
-use Rattle.controller.specs.Histories.{admit}
-use Rattle.controller.specs.View.{view}
-use Rattle.controller.proofs.Ties.{called}
+use Rattle.std.proofs.Common.{rules}
+use Rattle.controller.proofs.Ties.{accounted}
 use Rattle.controller.proofs.controller.Controller.admit.Goals as goal
 
-pub returns : goal.returns
-returns g c =
-    let plan = g.P.Process.meaning c.args.plan.now in
-    let permit = g.Q.Process.meaning c.args.permit.now in
-    called (admit plan permit c.args.rows.now) (g.met.P.Process.limits c.args.plan.now, g.met.Q.Process.limits c.args.permit.now)
-    (view c.args.self.now) _ _ c.take_over.ensures.answer c.take_over.ensures.after
+pub returns-then-is_on-clause-accounted : goal.returns-then-is_on-clause-accounted
+returns-then-is_on-clause-accounted g c = accounted _ (g.met.P.Process.limits c.args.plan.now, g.met.Q.Process.limits c.args.permit.now) _ _ _ (search rules) (search rules)
+
+pub returns-in_err-map_err-clause-accounted : goal.returns-in_err-map_err-clause-accounted
+returns-in_err-map_err-clause-accounted g c = accounted _ (g.met.P.Process.limits c.args.plan.now, g.met.Q.Process.limits c.args.permit.now) _ _ _ (search rules) (search rules)
+
+pub returns-then-moves_in_all-gt-MAX_MOVES-clause-accounted : goal.returns-then-moves_in_all-gt-MAX_MOVES-clause-accounted
+returns-then-moves_in_all-gt-MAX_MOVES-clause-accounted g c = accounted _ (g.met.P.Process.limits c.args.plan.now, g.met.Q.Process.limits c.args.permit.now) _ _ _ (search rules) (search rules)
+
+pub returns-clause-accounted : goal.returns-clause-accounted
+returns-clause-accounted g c = accounted _ (g.met.P.Process.limits c.args.plan.now, g.met.Q.Process.limits c.args.permit.now) _ _ _ (search rules) (search rules)

@@ -1,9 +1,6 @@
-use Rattle.std.proofs.Common.{refl}
-use Rattle.controller.specs.Histories.{start}
-use Rattle.controller.specs.Runs.{started}
-use Rattle.controller.specs.View.{view}
-use Rattle.controller.proofs.Ties.{run_called}
+use Rattle.std.proofs.Common.{rules}
+use Rattle.controller.proofs.Ties.{accounted}
 use Rattle.controller.proofs.controller.Controller.start.Goals as goal
 
-pub returns : goal.returns
-returns c = run_called start tt (view c.args.self.now) (started c.args.self.now.run) _ _ refl c.start.ensures.answer c.start.ensures.run
+pub returns-clause-accounted : goal.returns-clause-accounted
+returns-clause-accounted c = accounted _ tt _ _ _ (search rules) (search rules)
