@@ -54,7 +54,7 @@ pub fn bench_permit() -> RowTable
     ensures { contents result ≡ bench_table }
 {
     let mut table = RowTable::new();
-    let _ = table.vet(STATES, &ROWS);
+    table.vet(STATES, &ROWS).unwrap();
     table
 }
 

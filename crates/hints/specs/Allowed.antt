@@ -1,5 +1,6 @@
 -- The motions that a process allows.
-use Rattle.std.specs.Prelude.{◌≡◌, ℕ, zero, suc, ◌-◌, ◌≤◌, Bool, true, false, ◌↔◌, List, [], ◌∷◌, ◌++◌, nat_lt, slice_index_or}
+use Rattle.std.specs.Prelude.{◌≡◌, ℕ, ◌+◌, ◌-◌, ◌≤◌, Bool, true, false, ◌↔◌, List, [], ◌∷◌, ◌++◌, map, nat_lt, slice_index_or}
+use Rattle.std.specs.List.{range_with_len}
 use Rattle.process.specs.Meaning.{Proc}
 use Rattle.process.specs.Runs.{Trace}
 use Rattle.process.specs.Sets.{only}
@@ -9,14 +10,13 @@ use Rattle.reach.specs.Reach.{after, after_all, NoneSilent}
 abbrev pub allowed : Proc → ℕ → ℕ → Bool
 allowed p T m = nat_lt 0 (after p T m)
 
--- for each motion from 1 to n, whether it does
-abbrev pub allowed_up_to : Proc → ℕ → ℕ → List Bool
-allowed_up_to p T zero = []
-allowed_up_to p T (suc n) = allowed_up_to p T n ++ allowed p T (suc n) ∷ []
+-- for each motion from 1 to 24, whether it does
+abbrev pub allowed_from : Proc → ℕ → List Bool
+allowed_from p T = map (λ i. allowed p T (i + 1)) (range_with_len 0 24)
 
--- the same of the motions 1 to 24, after the motions w
+-- the same after the motions w
 abbrev pub allowed_list : Proc → List ℕ → List Bool
-allowed_list p w = allowed_up_to p (after_all p (only 0) w) 24
+allowed_list p w = allowed_from p (after_all p (only 0) w)
 
 -- the list says of each motion m from 1 to 24 whether w, followed by m, is a trace of p
 abbrev pub Allows : Proc → List ℕ → List Bool → Type 0

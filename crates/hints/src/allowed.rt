@@ -2,23 +2,22 @@
 ghost use Rattle.std.specs.Prelude.{◌≡◌};
 ghost use Rattle.process.specs.Sets.{only};
 ghost use Rattle.reach.specs.Reach.{after_all};
-ghost use Rattle.hints.specs.Allowed.{allowed, allowed_up_to, allowed_list, Allows};
+ghost use Rattle.hints.specs.Allowed.{allowed, allowed_from, allowed_list, Allows};
 
-use process::{Process, StateSet};
+use process::{LAST_MOTION, Process, StateSet};
 use reach::after;
+use std::array;
 
 // How many motions there are.
-const MOTIONS: usize = 24;
+const MOTIONS: usize = LAST_MOTION as usize;
 
 // The states in which the process can be right after the motions.
 pub fn after_motions<P: Process>(p: &P, motions: &[u8]) -> StateSet
     ensures { result.bits ≡ after_all (P.meaning p.now) (only 0) motions.now }
 {
-    let mut set = StateSet::single(0);
-    for m in motions {
-        set = after(p, set, *m);
-    }
-    set
+    motions
+        .iter()
+        .fold(StateSet::single(0), |set, m| after(p, set, *m))
 }
 
 // Does the process do the motion from a state of the set?
@@ -30,13 +29,9 @@ fn allows<P: Process>(p: &P, set: StateSet, motion: u8) -> bool
 
 // Which motions the process does from the set, the first of them motion 1.
 fn allowed_from<P: Process>(p: &P, set: StateSet) -> [bool; MOTIONS]
-    ensures { result ≡ allowed_up_to (P.meaning p.now) set.bits 24 }
+    ensures { result ≡ allowed_from (P.meaning p.now) set.bits }
 {
-    let mut list = [false; MOTIONS];
-    for i in 0..MOTIONS {
-        list[i] = allows(p, set, i as u8 + 1);
-    }
-    list
+    array::from_fn(|i| allows(p, set, i as u8 + 1))
 }
 
 // Which motions the process allows after those: the first is said of motion 1, the last of motion 24.

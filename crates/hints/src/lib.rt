@@ -5,7 +5,7 @@ mod allowed;
 mod place;
 
 pub use allowed::{after_motions, allowed_after};
-pub use place::{Position, line_around, position_of, token_len};
+pub use place::{Position, Spot};
 
 #[cfg(test)]
 mod tests;

@@ -1,14 +1,15 @@
 // Places of small texts.
-use crate::place::{Position, line_around, position_of, token_len};
+use crate::place::{Position, Spot};
 use std::process::Abort;
 
 const TEXT: &[u8] = b"(plan a\n  (do jump\n(end)))";
 
 // The place stands in that line and column, in a line of so many bytes, at a token of that length.
 fn stands(rt: &impl Abort, place: usize, line: usize, column: usize, bytes: usize, token: usize) {
-    assert_eq!(rt; position_of(TEXT, place), Position { line, column });
-    assert_eq!(rt; line_around(TEXT, place).len(), bytes);
-    assert_eq!(rt; token_len(TEXT, place), token);
+    let spot = Spot { text: TEXT, place };
+    assert_eq!(rt; spot.position(), Position { line, column });
+    assert_eq!(rt; spot.line().len(), bytes);
+    assert_eq!(rt; spot.token_len(), token);
 }
 
 #[test]

@@ -1,5 +1,5 @@
 -- The bytes of a text: ( ) space, line feed, a to z and 0 to 9.
-use Rattle.std.specs.Prelude.{ℕ, Bool, true, false, cond, ◌&&◌, ◌||◌, List, [], ◌∷◌, length, ◌==◌, nat_le}
+use Rattle.std.specs.Prelude.{ℕ, Bool, true, cond, ◌&&◌, ◌||◌, List, [], ◌∷◌, length, ◌==◌, nat_le}
 use Rattle.lexer.specs.declared.lex.Class.{Class}
 use Rattle.lexer.specs.declared.lex.Class.TheVariants.{Open, Close, Blank, Letter, Foreign}
 
@@ -12,16 +12,6 @@ blank b = b == 32 || b == 10
 
 abbrev pub class_of : ℕ → Class
 class_of b = cond (b == 40) Open (cond (b == 41) Close (cond (blank b) Blank (cond (alnum b) Letter Foreign)))
-
-abbrev pub is_letter : Class → Bool
-is_letter Open = false
-is_letter Close = false
-is_letter Blank = false
-is_letter Letter = true
-is_letter Foreign = false
-
-abbrev pub wordy : ℕ → Bool
-wordy b = is_letter (class_of b)
 
 -- each byte is a letter or a digit
 abbrev pub word_bytes : List ℕ → Bool

@@ -2,7 +2,7 @@
 use Rattle.std.specs.Prelude.{◌≡◌, ℕ, ◌+◌, cond, List, [], ◌∷◌, take, Some, None, Ok, Err, Option, Result, nat_le}
 use Rattle.std.specs.Borrow.{Bor}
 use Rattle.std.specs.List.{prefix_len}
-use Rattle.lexer.specs.Bytes.{class_of, wordy}
+use Rattle.lexer.specs.Bytes.{class_of, alnum}
 use Rattle.lexer.specs.declared.lex.Class.{Class}
 use Rattle.lexer.specs.declared.lex.Class.TheVariants as class
 use Rattle.lexer.specs.declared.token.Token.{Token}
@@ -29,9 +29,9 @@ tok_of token.Open = opening
 tok_of token.Close = closing
 tok_of (token.Word w) = word w.now
 
-abbrev pub step_of : Result (Option Placed) (Located TextFault) → Step
+abbrev pub step_of : Result (Option (Placed Token)) (Located TextFault) → Step
 step_of (Ok None) = ended
-step_of (Ok (Some p)) = read (tok_of p.token) p.place p.next
+step_of (Ok (Some p)) = read (tok_of p.what) p.place p.next
 step_of (Err e) = fault e.fault e.place
 
 abbrev pub by_class : Class → Step → Step → Step → Step → Step → Step
@@ -44,7 +44,7 @@ by_class class.Foreign a b c d e = e
 -- the word at the front of bs, its longest run of letters and digits, of at most 8 bytes
 abbrev pub word_step : List ℕ → ℕ → Step
 word_step bs i =
-    cond (nat_le (prefix_len wordy bs) 8) (read (word (take (prefix_len wordy bs) bs)) i (i + prefix_len wordy bs)) (fault BadToken i)
+    cond (nat_le (prefix_len alnum bs) 8) (read (word (take (prefix_len alnum bs) bs)) i (i + prefix_len alnum bs)) (fault BadToken i)
 
 -- the first token of bs, which begins at the place i of its text
 abbrev pub lex : List ℕ → ℕ → Step
@@ -58,7 +58,7 @@ PartAt text i token.Open = Unit {0}
 PartAt text i token.Close = Unit {0}
 PartAt text i (token.Word w) = (w.ref_ptr.0 ≡ text.ref_ptr.0) × (w.ref_ptr.1 ≡ i + text.ref_ptr.1)
 
-abbrev pub InText : Bor (List ℕ) → Result (Option Placed) (Located TextFault) → Type 0
+abbrev pub InText : Bor (List ℕ) → Result (Option (Placed Token)) (Located TextFault) → Type 0
 InText text (Ok None) = Unit {0}
-InText text (Ok (Some p)) = PartAt text p.place p.token
+InText text (Ok (Some p)) = PartAt text p.place p.what
 InText text (Err e) = Unit {0}

@@ -6,5 +6,5 @@ pub mod lex;
 pub mod token;
 
 pub use fault::TextFault;
-pub use lex::next_token;
+pub use lex::{MAX_WORD, is_word_byte, next_token};
 pub use token::{Placed, Token};

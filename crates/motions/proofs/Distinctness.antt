@@ -1,17 +1,11 @@
 -- No word stands at two places of the table: one computed test over the whole table, and what it tells of every two places.
-use Rattle.std.proofs.Common.{◌≡◌, ℕ, zero, suc, ◌<◌, Bool, true, false, not, ◌&&◌, ◌||◌, List, [], ◌∷◌, length, get_or, Some, None, Option, sym, refl, ap, ◌∙◌, le_of_suc-le-suc, not-suc-le-zero, arith}
+use Rattle.std.proofs.Common.{◌≡◌, ℕ, zero, suc, ◌<◌, Bool, true, false, not, ◌&&◌, ◌||◌, List, [], ◌∷◌, length, get_or, Some, sym, refl, ap, ◌∙◌, le_of_suc-le-suc, not-suc-le-zero}
 use Rattle.std.specs.List.{slice_get}
 use Rattle.std.specs.Str.{bytes_eq}
 use Rattle.std.proofs.lemmas.Slice.Eq.{bytes_eq-Decides}
-use Rattle.std.proofs.lemmas.Option.{slice_get-get_or}
+use Rattle.std.proofs.lemmas.Option.{none-some, same_Some, slice_get-get_or}
 use Rattle.std.proofs.lemmas.Bool.{and_parts, not-true, or_left, or_right, both_ways}
 use Rattle.motions.specs.Naming.{names, Distinct}
-
-pub none_some : {X : Type 0} (x : X) → ◌≡◌ {A = Option X} None (Some x) → ⊥
-none_some x e = let z : ◌≡◌ {A = ℕ} 0 1 = cc in omega arith
-
-pub some_same : {X : Type 0} (x y : X) → ◌≡◌ {A = Option X} (Some x) (Some y) → x ≡ y
-some_same x y e = cc
 
 -- does x stand in the list
 abbrev pub occurs : List ℕ → List (List ℕ) → Bool
@@ -24,8 +18,8 @@ distinct [] = true
 distinct (x ∷ xs) = not (occurs x xs) && distinct xs
 
 occurs_at : (x : List ℕ) (xs : List (List ℕ)) (j : ℕ) → slice_get xs j ≡ Some x → occurs x xs ≡ true
-occurs_at x [] j e = absurd (none_some x e)
-occurs_at x (y ∷ ys) zero e = or_left _ _ ((bytes_eq-Decides x y).1 (sym (some_same y x e)))
+occurs_at x [] j e = absurd (none-some x e)
+occurs_at x (y ∷ ys) zero e = or_left _ _ ((bytes_eq-Decides x y).1 (sym (same_Some y x e)))
 occurs_at x (y ∷ ys) (suc j) e = or_right _ _ (occurs_at x ys j e)
 
 -- the first word does not stand among the others

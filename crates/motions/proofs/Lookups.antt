@@ -1,19 +1,18 @@
 -- The look-ups by word and by motion.
-use Rattle.std.proofs.Common.{◌≡◌, ℕ, zero, suc, ◌+◌, ◌-◌, ◌<◌, Bool, true, false, cond, ◌&&◌, eqb, ltb, ◌⊎◌, List, [], ◌∷◌, map, length, get_or, IfSome, Some, None, Option, sym, refl, ap, ◌∙◌, subst, inl, inr, add-one, arith}
+use Rattle.std.proofs.Common.{◌≡◌, ℕ, zero, suc, ◌+◌, ◌-◌, Bool, true, false, cond, ◌&&◌, eqb, ltb, ◌⊎◌, List, [], ◌∷◌, map, length, IfSome, Some, None, Option, Bor, sym, refl, ap, ◌∙◌, inl, inr, add-one, arith}
 use Rattle.std.specs.Option.{option_map}
-use Rattle.std.specs.List.{slice_get, AllByRecursion}
-use Rattle.std.specs.Str.{bytes_eq}
+use Rattle.std.specs.List.{slice_get, list_all}
+use Rattle.std.specs.Str.{bytes_eq, IsAscii, IsUtf8}
+use Rattle.std.proofs.lemmas.Str.{IsUtf8-from_ascii}
 use Rattle.std.proofs.lemmas.Slice.Eq.{bytes_eq-Decides}
-use Rattle.std.proofs.lemmas.List.{get_or-map, length-map}
-use Rattle.std.proofs.lemmas.Option.{slice_get-get_or}
-use Rattle.std.proofs.lemmas.Bool.{and_parts, cases_Bool, cond-true, cond-false, ne_eqb}
-use Rattle.std.proofs.lemmas.Bool.Decides.{Decides-and, Decides-ltb}
-use Rattle.std.proofs.ByRecursion.{Decides-by_and}
+use Rattle.std.proofs.lemmas.Option.{none-some, same_Some, slice_get_within, get_or_from_slice_get}
+use Rattle.std.proofs.lemmas.Bool.{and_parts, ltb-true, cases_Bool, cond-true, cond-false, ne_eqb}
+use Rattle.std.proofs.lemmas.List.Recursion.{and_at}
 use Rattle.common.specs.First.{FirstWith, first}
 use Rattle.common.proofs.Firsts.{first_is}
 use Rattle.motions.specs.declared.words.Name.{Name}
 use Rattle.motions.specs.Naming.{names, letters_of, place_of, motion_of, name_of, Names, OneToOne, Short}
-use Rattle.motions.proofs.Distinctness.{distinct, apart, none_some, some_same}
+use Rattle.motions.proofs.Distinctness.{distinct, apart}
 
 -- the first of mapped records
 first_map : {X Y : Type 0} (f : X → Y) (test : Y → Bool) (xs : List X) → first (λ x. test (f x)) xs ≡ first test (map f xs)
@@ -27,57 +26,34 @@ found_is xs w r e h =
     ∙ first_map letters_of (λ x. bytes_eq x w) xs
     ∙ ap (first (λ x. bytes_eq x w)) e
 
--- what is found lies within the table
-pub found_within : (xs : List Name) (w : List ℕ) (r : Option ℕ) → length xs ≡ 24 → FirstWith (λ x. letters_of x ≡ w) xs r → IfSome r (λ i. i < 24)
-found_within xs w (Some i) l h = let inside = h.0 in omega arith
-found_within xs w None l h = tt
+-- is a word 1 to 8 letters long
+abbrev short : List ℕ → Bool
+short w = ltb 0 (length w) && ltb (length w) 9
 
--- the letters at a place of the table are the name there
-pub letters_there : (xs : List Name) (i : ℕ) (d : Name) → map letters_of xs ≡ names → i < length xs → Some (letters_of (get_or xs i d)) ≡ slice_get names i
-letters_there xs i d e h =
-    ap Some (sym (get_or-map letters_of xs i d [] h) ∙ ap (λ (ws : List (List ℕ)). get_or ws i []) e)
-    ∙ sym (slice_get-get_or names i [] (subst (λ (n : ℕ). i < n) (sym (length-map xs letters_of) ∙ ap length e) h))
+-- every name is
+pub name_short : (w : List ℕ) (i : ℕ) → slice_get names i ≡ Some w → Short w
+name_short w i e =
+    let at = and_at (list_all short) short refl (λ _ _. refl) names i w (slice_get_within names i w e) refl in
+    let t = and_parts (ltb 0 (length w)) (ltb (length w) 9) (ap short (sym (get_or_from_slice_get names i w w e)) ∙ at) in
+    (omega (arith, ltb-true 0 (length w) t.0), omega (arith, ltb-true (length w) 9 t.1))
 
--- are all words 1 to 8 letters long
-abbrev short : List (List ℕ) → Bool
-short [] = true
-short (w ∷ ws) = (ltb 0 (length w) && ltb (length w) 9) && short ws
-
-all_short : AllByRecursion (λ w. (0 < length w) × (length w < 9)) names
-all_short =
-    (Decides-by_and
-    (λ w. ltb 0 (length w) && ltb (length w) 9)
-    (λ w. (0 < length w) × (length w < 9))
-    short
-    (λ w. Decides-and _ _ (Decides-ltb 0 (length w)) (Decides-ltb (length w) 9))
-    refl
-    (λ _ _. refl)
-    names
-    ).0
-    refl
-
-short_nth : (ws : List (List ℕ)) (i : ℕ) (w : List ℕ) → AllByRecursion (λ x. (0 < length x) × (length x < 9)) ws → slice_get ws i ≡ Some w → Short w
-short_nth [] i w a e = absurd (none_some w e)
-short_nth (x ∷ xs) zero w a e = let same = ap length (some_same x w e) in (omega (arith, a.0.0), omega (arith, a.0.1))
-short_nth (x ∷ xs) (suc i) w a e = short_nth xs i w a.1 e
-
--- every name has 1 to 8 letters
-pub name_short : (w : List ℕ) (i : ℕ) → Some w ≡ slice_get names i → Short w
-name_short w i e = short_nth names i w all_short (sym e)
+pub short_there : (r : Option (Bor (List ℕ))) (i : ℕ) → option_map (λ w. w.now) r ≡ slice_get names i → IfSome r (λ w. Short w.now)
+short_there None i e = tt
+short_there (Some w) i e = name_short w.now i (sym e)
 
 -- where a mapped answer is a number, so is the answer
 number_behind : (f : ℕ → ℕ) (o : Option ℕ) (i : ℕ) → option_map f o ≡ Some i → (k : ℕ) × (i ≡ f k) × (o ≡ Some k)
-number_behind f None i e = absurd (none_some i e)
-number_behind f (Some k) i e = (k, sym (some_same (f k) i e), refl)
+number_behind f None i e = absurd (none-some i e)
+number_behind f (Some k) i e = (k, sym (same_Some (f k) i e), refl)
 
 -- the first word equal to w is w
 word_at : (xs : List (List ℕ)) (w : List ℕ) (i : ℕ) → first (λ x. bytes_eq x w) xs ≡ Some i → slice_get xs i ≡ Some w
-word_at [] w i e = absurd (none_some i e)
+word_at [] w i e = absurd (none-some i e)
 word_at (x ∷ xs) w i e = by (cases_Bool (bytes_eq x w)) (λ k. word_at xs w k)
   where
     by : (bytes_eq x w ≡ true) ⊎ (bytes_eq x w ≡ false) → ((k : ℕ) → first (λ y. bytes_eq y w) xs ≡ Some k → slice_get xs k ≡ Some w) → slice_get (x ∷ xs) i ≡ Some w
     by (inl t) more =
-        ap (slice_get (x ∷ xs)) (sym (some_same 0 i (sym (cond-true _ _ _ t) ∙ e)))
+        ap (slice_get (x ∷ xs)) (sym (same_Some 0 i (sym (cond-true _ _ _ t) ∙ e)))
         ∙ ap Some ((bytes_eq-Decides x w).0 t)
     by (inr f) more =
         let k = number_behind suc (first (λ y. bytes_eq y w) xs) i (sym (cond-false _ _ _ f) ∙ e) in
@@ -85,21 +61,21 @@ word_at (x ∷ xs) w i e = by (cases_Bool (bytes_eq x w)) (λ k. word_at xs w k)
 
 -- where no word stands twice, each stands at the first place equal to it
 first_at : (xs : List (List ℕ)) (w : List ℕ) (i : ℕ) → distinct xs ≡ true → slice_get xs i ≡ Some w → first (λ x. bytes_eq x w) xs ≡ Some i
-first_at [] w i t e = absurd (none_some w e)
-first_at (x ∷ xs) w zero t e = cond-true _ _ _ ((bytes_eq-Decides x w).1 (some_same x w e))
+first_at [] w i t e = absurd (none-some w e)
+first_at (x ∷ xs) w zero t e = cond-true _ _ _ ((bytes_eq-Decides x w).1 (same_Some x w e))
 first_at (x ∷ xs) w (suc i) t e = by (cases_Bool (bytes_eq x w)) (first_at xs w i (and_parts _ _ t).1 e)
   where
     by : (bytes_eq x w ≡ true) ⊎ (bytes_eq x w ≡ false) → first (λ y. bytes_eq y w) xs ≡ Some i → first (λ y. bytes_eq y w) (x ∷ xs) ≡ Some (suc i)
     by (inl s) more = absurd (apart x xs i t (e ∙ ap Some (sym ((bytes_eq-Decides x w).0 s))))
     by (inr f) more = cond-false _ _ _ f ∙ ap (option_map suc) more
 
-name_suc : (i : ℕ) → name_of (suc i) ≡ slice_get names i
+pub name_suc : (i : ℕ) → name_of (suc i) ≡ slice_get names i
 name_suc i =
     let down : suc i - 1 ≡ i = omega arith in
     cond-false (eqb (suc i) 0) None (slice_get names (suc i - 1)) (ne_eqb (suc i) 0 (λ e. omega arith)) ∙ ap (slice_get names) down
 
 pub one_to_one : OneToOne
-one_to_one w zero = (λ e. absurd (never (number_behind (λ i. i + 1) (place_of w) 0 e)), λ e. absurd (none_some w e))
+one_to_one w zero = (λ e. absurd (never (number_behind (λ i. i + 1) (place_of w) 0 e)), λ e. absurd (none-some w e))
   where
     never : (k : ℕ) × (0 ≡ k + 1) × (place_of w ≡ Some k) → ⊥
     never (k, z, _) = omega arith
@@ -110,3 +86,20 @@ one_to_one w (suc i) = (λ e. there (number_behind (λ i. i + 1) (place_of w) (s
 
     back : Names w (suc i) → motion_of w ≡ Some (suc i)
     back e = ap (option_map (λ i. i + 1)) (first_at names w i refl (sym (name_suc i) ∙ e)) ∙ ap Some (add-one i)
+
+abbrev plain : List ℕ → Bool
+plain w = list_all (λ b. ltb b 128) w
+
+plain_ascii : (w : List ℕ) → plain w ≡ true → IsAscii w
+plain_ascii [] t i = omega arith
+plain_ascii (b ∷ w) t zero = ltb-true b 128 (and_parts (ltb b 128) (plain w) t).0
+plain_ascii (b ∷ w) t (suc i) = plain_ascii w (and_parts (ltb b 128) (plain w) t).1 i
+
+-- every name is a text
+pub text_there : (r : Option (Bor (List ℕ))) (m : ℕ) → option_map (λ w. w.now) r ≡ name_of m → IfSome r (λ w. IsUtf8 w.now)
+text_there None m e = tt
+text_there (Some w) zero e = absurd (none-some w.now (sym e))
+text_there (Some w) (suc i) e =
+    let named = sym (name_suc i) ∙ sym e in
+    let at = and_at (list_all plain) plain refl (λ _ _. refl) names i w.now (slice_get_within names i w.now named) refl in
+    IsUtf8-from_ascii w.now (plain_ascii w.now (ap plain (sym (get_or_from_slice_get names i w.now w.now named)) ∙ at))

@@ -2,9 +2,11 @@
 #![tactic(auto)]
 
 pub mod naming;
+pub mod shown;
 pub mod words;
 
 pub use naming::{NAMES, motion_of, name_of, table};
+pub use shown::Named;
 pub use words::Name;
 
 #[cfg(test)]

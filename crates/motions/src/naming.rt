@@ -43,13 +43,6 @@ pub const NAMES: [Name<'static>; 24] = [
     Name { letters: b"report" },
 ];
 
-// The names as a list.
-fn listed() -> &'static [Name<'static>]
-    ensures { map letters_of result.now ≡ names }
-{
-    &NAMES
-}
-
 // All names, no two of them alike, so that naming is one to one.
 pub fn table() -> &'static [Name<'static>]
     ensures is { map letters_of result.now ≡ names }
@@ -57,7 +50,7 @@ pub fn table() -> &'static [Name<'static>]
     ensures distinct { Distinct names }
     ensures paired { OneToOne }
 {
-    listed()
+    &NAMES
 }
 
 // The place of a word in the table, from 0 on.
@@ -68,27 +61,11 @@ fn place_of(word: &[u8]) -> Option<usize>
     find_first(table(), &word)
 }
 
-// The name at a place of the table, from 0 on; None past the last.
-fn name_at(i: usize) -> Option<&'static [u8]>
-    ensures is { option_map (λ x. x.now) result ≡ slice_get names i }
-    ensures short { IfSome result (λ name. Short name.now) }
-{
-    let names = table();
-    if i < names.len() {
-        Some(names[i].letters)
-    } else {
-        None
-    }
-}
-
 // The motion that a word names, 1 to 24; None for any other word.
 pub fn motion_of(word: &[u8]) -> Option<u8>
     ensures { result ≡ motion_of word.now }
 {
-    match place_of(word) {
-        Some(i) => Some(i as u8 + 1),
-        None => None,
-    }
+    place_of(word).map(|i| i as u8 + 1)
 }
 
 // The name of a motion, 1 to 8 letters; None unless the motion is 1 to 24.
@@ -96,9 +73,6 @@ pub fn name_of(motion: u8) -> Option<&'static [u8]>
     ensures is { option_map (λ x. x.now) result ≡ name_of motion }
     ensures short { IfSome result (λ name. Short name.now) }
 {
-    if motion == 0 {
-        None
-    } else {
-        name_at(motion as usize - 1)
-    }
+    let place = motion.checked_sub(1)?;
+    table().get(usize::from(place)).map(|name| name.letters)
 }

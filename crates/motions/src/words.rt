@@ -1,5 +1,5 @@
 // A motion's name as a record that is looked up by its letters.
-ghost use Rattle.std.specs.Prelude.{◌≡◌, ℕ, List, Decides};
+ghost use Rattle.std.specs.Prelude.{ℕ, List};
 
 use common::Keyed;
 
@@ -7,13 +7,6 @@ use common::Keyed;
 #[derive(Clone, Copy)]
 pub struct Name<'a> {
     pub letters: &'a [u8],
-}
-
-// Are two words alike?
-fn same(a: &[u8], b: &[u8]) -> bool
-    ensures { Decides result (a.now ≡ b.now) }
-{
-    a == b
 }
 
 impl<'a> Keyed for Name<'a> {
@@ -26,6 +19,6 @@ impl<'a> Keyed for Name<'a> {
     ghost by = { λ n. n.letters.now };
 
     fn has_key(&self, key: &&'a [u8]) -> bool {
-        same(self.letters, *key)
+        self.letters == *key
     }
 }

@@ -1,10 +1,9 @@
 -- What stands around a place of a plan: the recs and the do that reading keeps are those of the open brackets.
-use Rattle.std.proofs.Common.{◌≡◌, ℕ, ◌+◌, ◌<◌, ◌≤◌, Bool, true, false, cond, List, [], ◌∷◌, ◌++◌, length, Some, None, codes, sym, refl, ap, ◌∙◌, arith}
+use Rattle.std.proofs.Common.{◌≡◌, ℕ, ◌+◌, ◌<◌, ◌≤◌, Bool, true, false, cond, List, [], ◌∷◌, ◌++◌, Some, None, codes, refl, ap, ◌∙◌, arith}
 use Rattle.std.proofs.lemmas.Slice.Eq.{bytes_eq-Decides}
-use Rattle.std.proofs.lemmas.Bool.{false≢true}
 use Rattle.std.specs.Str.{bytes_eq}
 use Rattle.lexer.specs.Lex.{Tok, opening, closing, word}
-use Rattle.formtable.specs.Laid.{some_inj, none_some}
+use Rattle.formtable.specs.Laid.{none_some}
 use Rattle.reader.specs.Reading.{Bound, binds, lookup}
 use Rattle.reader.specs.Plans.{Tree, stop, act, tau, or, loop, again, spell, size}
 use Rattle.reader.specs.Brackets.{Frame, feed, open_in, open_after, openings, rec_of, do_of, NoneBinds, Unguarded}
@@ -17,9 +16,7 @@ open_append fs (t ∷ ts) us = open_append (feed t fs) ts us
 
 openings_append : (ts us : List Tok) → openings (ts ++ us) ≡ openings ts + openings us
 openings_append [] us = omega arith
-openings_append (opening ∷ ts) us = omega (arith, openings_append ts us)
-openings_append (closing ∷ ts) us = openings_append ts us
-openings_append (word w ∷ ts) us = openings_append ts us
+openings_append (t ∷ ts) us = grind (arith, openings_append ts us)
 
 in_bracket : (t : Tree) (f : Frame) (fs : List Frame) → open_in (f ∷ fs) (spell t) ≡ f ∷ fs → open_in (f ∷ fs) (spell t ++ (closing ∷ [])) ≡ fs
 in_bracket t f fs h = open_append (f ∷ fs) (spell t) (closing ∷ []) ∙ ap (λ z. open_in z (closing ∷ [])) h
@@ -88,38 +85,28 @@ ordered_on q r (titled x ∷ hs) l o = ordered_on q r hs l o
 ordered_on q r (doing w p ∷ hs) l o = (omega (arith, o.0), o.1)
 ordered_on q r (looping x p ∷ hs) l o = (omega (arith, o.0), o.1)
 
--- frames are apart by their number of words, or by the length of the first word
-
-abbrev words_in : Frame → ℕ
-words_in [] = 0
-words_in (w ∷ []) = 1
-words_in (w ∷ (v ∷ [])) = 2 + length v
-words_in (w ∷ (v ∷ (u ∷ f))) = 2
+-- frames are apart
 
 plain_rec : (w x : List ℕ) → w ∷ [] ≡ rec_of x → ⊥
-plain_rec w x e = let z : ◌≡◌ {A = ℕ} 1 5 = ap words_in e in omega arith
+plain_rec w x e = cc
 
 plain_do : (w x : List ℕ) → w ∷ [] ≡ do_of x → ⊥
-plain_do w x e = let z : ◌≡◌ {A = ℕ} 1 4 = ap words_in e in omega arith
+plain_do w x e = cc
 
 titled_rec : (w x : List ℕ) → w ∷ (codes "plan" ∷ []) ≡ rec_of x → ⊥
-titled_rec w x e = let z : ◌≡◌ {A = ℕ} 6 5 = ap words_in e in omega arith
+titled_rec w x e = cc
 
 titled_do : (w x : List ℕ) → w ∷ (codes "plan" ∷ []) ≡ do_of x → ⊥
-titled_do w x e = let z : ◌≡◌ {A = ℕ} 6 4 = ap words_in e in omega arith
+titled_do w x e = cc
 
 do_rec : (w x : List ℕ) → do_of w ≡ rec_of x → ⊥
-do_rec w x e = let z : ◌≡◌ {A = ℕ} 4 5 = ap words_in e in omega arith
+do_rec w x e = cc
 
 rec_do : (w x : List ℕ) → rec_of w ≡ do_of x → ⊥
-rec_do w x e = let z : ◌≡◌ {A = ℕ} 5 4 = ap words_in e in omega arith
-
-abbrev last_word : Frame → List ℕ
-last_word [] = []
-last_word (w ∷ f) = w
+rec_do w x e = cc
 
 rec_other : (y x : List ℕ) → bytes_eq y x ≡ false → rec_of y ≡ rec_of x → ⊥
-rec_other y x f e = false≢true (sym f ∙ (bytes_eq-Decides y x).1 (ap last_word e))
+rec_other y x f e = grind (arith, bytes_eq-Decides)
 
 -- a name that is not found is bound by no open rec
 pub none_binds : (hs : List Hold) (x : List ℕ) → lookup (env_from hs) x ≡ None → NoneBinds (frames_of hs) x
@@ -127,11 +114,7 @@ none_binds [] x e = tt
 none_binds (plain w ∷ hs) x e = (plain_rec w x, none_binds hs x e)
 none_binds (titled y ∷ hs) x e = (titled_rec y x, none_binds hs x e)
 none_binds (doing w p ∷ hs) x e = (do_rec w x, none_binds hs x e)
-none_binds (looping y p ∷ hs) x e = by (bytes_eq y x) refl e (none_binds hs x)
-  where
-    by : (c : Bool) → bytes_eq y x ≡ c → cond c (Some p) (lookup (env_from hs) x) ≡ None → (lookup (env_from hs) x ≡ None → NoneBinds (frames_of hs) x) → NoneBinds (frames_of (looping y p ∷ hs)) x
-    by true i e h = absurd (none_some (sym e))
-    by false i e h = (rec_other y x i, h e)
+none_binds (looping y p ∷ hs) x e = grind (arith, rec_other y x, none_binds hs x)
 
 -- what is found stands before the place
 below : (hs : List Hold) (x : List ℕ) (k q : ℕ) → lookup (env_from hs) x ≡ Some k → Ordered q hs → k < q
@@ -139,11 +122,7 @@ below [] x k q e o = absurd (none_some e)
 below (plain w ∷ hs) x k q e o = below hs x k q e o
 below (titled y ∷ hs) x k q e o = below hs x k q e o
 below (doing w p ∷ hs) x k q e o = let l = below hs x k p e o.1 in omega (arith, o.0)
-below (looping y p ∷ hs) x k q e o = by (bytes_eq y x) e (λ d. below hs x k p d o.1)
-  where
-    by : (c : Bool) → cond c (Some p) (lookup (env_from hs) x) ≡ Some k → (lookup (env_from hs) x ≡ Some k → k < p) → k < q
-    by true e h = let same = some_inj e in omega (arith, o.0)
-    by false e h = let l = h e in omega (arith, o.0)
+below (looping y p ∷ hs) x k q e o = let further : lookup (env_from hs) x ≡ Some k → k < p = λ d. below hs x k p d o.1 in grind arith
 
 further : (f : Frame) (fs : List Frame) (x : List ℕ) → (f ≡ rec_of x → ⊥) → ((w : List ℕ) → f ≡ do_of w → ⊥) → Unguarded fs x → Unguarded (f ∷ fs) x
 further f fs x n d u = record { between = f ∷ u.between; outside = u.outside; split = ap (λ z. f ∷ z) u.split; nearest = (n, u.nearest); bare = (d, u.bare) }

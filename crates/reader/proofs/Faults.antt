@@ -10,7 +10,7 @@ use Rattle.lexer.specs.Lex.{Tok, opening, closing, word}
 use Rattle.motions.specs.Naming.{motion_of}
 use Rattle.reader.specs.declared.heads.Shape.{Shape}
 use Rattle.reader.specs.declared.heads.Shape.TheVariants.{End, Do, Tau, Or, Rec, Go}
-use Rattle.reader.specs.Tokens.{fault_at, bind, Spot, token, next_tok, letters_by, opens, closes, words}
+use Rattle.reader.specs.Tokens.{fault_at, bind, Spot, token, next_tok, takes, words}
 use Rattle.reader.specs.Reading.{shape_of, room_for, form_by, form_word, head_at, motion_by, motion_at, Bound, binds, lookup, target_by, go_target_at, Outcome, shut, body, step, term_at}
 use Rattle.reader.specs.Plans.{Tree, stop, spell, Stands, Spelt, size, flatten, Good}
 use Rattle.reader.specs.Stops.{Ahead, Wrong}
@@ -18,10 +18,10 @@ use Rattle.reader.proofs.Contexts.{Context, Then, in_do, in_rec, in_plain, past_
 use Rattle.reader.proofs.Grammar.{Item, name, inner, items, rest, first, bytes, After, fill, fill_after, shape_in, parts, made, shaped_as, word_out, term_out}
 use Rattle.reader.proofs.Grammar.{shut as shutting}
 use Rattle.reader.proofs.Reasons.{then_then, then_map, wrong_motion, wrong_name, wrong_guard, wrong_many, wrong_short}
-use Rattle.reader.proofs.Spellings.{ok_err, word_for, formed, shaped, open_is, word_is, Headed, headed, moved, aimed, word_of, open_of, head_of, motion_of_word, target_of, Sound, sound, complete}
-use Rattle.reader.proofs.Spots.{open_err, close_err, word_err}
+use Rattle.reader.proofs.Spellings.{ok_err, word_for, formed, shaped, take_is, word_is, Headed, headed, moved, aimed, word_of, take_of, head_of, motion_of_word, target_of, Sound, sound, complete}
+use Rattle.reader.proofs.Spots.{letters_by, take_err, word_err}
 use Rattle.reader.proofs.Steps.{chain, broke}
-use Rattle.reader.proofs.Stopping.{unbind_err, err_same, apart, IsWord, not_open, not_close, not_word, StopsAt, Again, here, odd, fair, after}
+use Rattle.reader.proofs.Stopping.{unbind_err, err_same, apart, IsWord, not_taken, not_word, StopsAt, Again, here, odd, fair, after}
 use Rattle.reader.proofs.Tables.{length_flatten}
 
 -- terms and items
@@ -58,11 +58,11 @@ module _ (cap : ℕ) (s : List ℕ) (f : Located TextFault) where
       (λ more h m. (m.1.0, subst (Ahead (next_tok s a).what) m.1.2 h))
       (λ s' a' n. again s' a' _ (word_err (next_tok s' a').what (next_tok s' a').place (λ w d. n (w, d))))
 
-  pub no_close : {X : Type 0} {C : List Tok → Type 0} (is : List Item) (k : List ℕ → ℕ → Result X (Located TextFault)) (a : ℕ) → closes (next_tok s a) ≡ Err f → AtItems (shutting ∷ is) C (λ s' a'. bind (closes (next_tok s' a')) (k s')) a
+  pub no_close : {X : Type 0} {C : List Tok → Type 0} (is : List Item) (k : List ℕ → ℕ → Result X (Located TextFault)) (a : ℕ) → takes closing (next_tok s a) ≡ Err f → AtItems (shutting ∷ is) C (λ s' a'. bind (takes closing (next_tok s' a')) (k s')) a
   no_close is k a e =
-      here s a f (λ j. j ≡ token closing) (not_close (next_tok s a).what (next_tok s a).place (next_tok s a).after f e) (fill (shutting ∷ is), fill_after (shutting ∷ is))
+      here s a f (λ j. j ≡ token closing) (not_taken closing (next_tok s a).what (next_tok s a).place (next_tok s a).after f e) (fill (shutting ∷ is), fill_after (shutting ∷ is))
       (λ more h m. subst (Ahead (next_tok s a).what) m.1.1 h)
-      (λ s' a' n. broke (k s') (close_err (next_tok s' a').what (next_tok s' a').place (next_tok s' a').after n))
+      (λ s' a' n. broke (k s') (take_err closing (next_tok s' a').what (next_tok s' a').place (next_tok s' a').after n))
 
   pub no_term : {X : Type 0} {C D : List Tok → Type 0} (is : List Item) (i : Part (ℕ × List Record)) (k : List ℕ → (ℕ × List Record) → Result X (Located TextFault)) (a : ℕ) → ((pre : List Tok) → C pre → D pre) → AtTerm D i a → AtItems (inner ∷ is) C (λ s' a'. bind (i s' a') (k s')) a
   no_term {C = C} {D = D} is i k a into x = after s a f [] a refl
@@ -118,7 +118,7 @@ module _ (cap : ℕ) (s : List ℕ) (f : Located TextFault) where
         by w (Some i) j h e = guard w i (ltb i g) refl j h e
 
   no_shut : {C : List Tok → Type 0} (is : List Item) (a : ℕ) (ns : List Record) → shut s a ns ≡ Err f → AtItems (shutting ∷ is) C (λ s' a'. shut s' a' ns) a
-  no_shut is a ns e = ⊎_elim (no_close is (λ s' b. Ok (b, ns)) a) (λ u. absurd (ok_err u.2)) (unbind_err (closes (next_tok s a)) (λ b. Ok (b, ns)) f e)
+  no_shut is a ns e = ⊎_elim (no_close is (λ s' b. Ok (b, ns)) a) (λ u. absurd (ok_err u.2)) (unbind_err (takes closing (next_tok s a)) (λ b. Ok (b, ns)) f e)
 
   -- the opening bracket and the form word
 
@@ -150,7 +150,7 @@ module _ (cap : ℕ) (s : List ℕ) (f : Located TextFault) where
         (form_again w Unexpected None i (λ t. refl))
       where
         none : (g : Shape) → ◌≡◌ {A = Option Shape} (Some g) None → ⊥
-        none g e = let z : ◌≡◌ {A = ℕ} 0 1 = cc in omega arith
+        none g e = cc
     no_form a w (Some c) h i e = one (leb 64 p) refl e
       where
         full : (n : TextFault) → (n ≡ BadToken → ⊥) → (n ≡ Unexpected → ⊥) → f ≡ fault_at n (next_tok s a).place → ((t : Spot) → room_for cap p t c ≡ Err (fault_at n t.place))
@@ -175,13 +175,13 @@ module _ (cap : ℕ) (s : List ℕ) (f : Located TextFault) where
 
     no_head : (a : ℕ) → head_at s cap a p ≡ Err f → AtTerm (Context cap env g p) (λ s' a'. bind (head_at s' cap a' p) (k s')) a
     no_head a e = ⊎_elim
-        (λ h. here s a f (λ j. j ≡ token opening) (not_open (next_tok s a).what (next_tok s a).place (next_tok s a).after f h) (stop, _, refl)
+        (λ h. here s a f (λ j. j ≡ token opening) (not_taken opening (next_tok s a).what (next_tok s a).place (next_tok s a).after f h) (stop, _, refl)
         (λ more x m. subst (Ahead (next_tok s a).what) (sym m.2 ∙ (parts m.0 m.1).1) x)
-        (λ s' a' n. broke (k s') (broke (form_word s' cap p) (open_err (next_tok s' a').what (next_tok s' a').place (next_tok s' a').after n))))
-        (λ u. after s a f (opening ∷ []) u.0 (open_is s a u.0 u.1) (λ ts c. c) (λ ts m. m) (λ pre c. (pre, c, refl))
-        (λ s' a' b' j l r. ap (λ z. bind z (k s')) (chain (form_word s' cap p) (open_of s' a' l.0) refl) ∙ ap (form_part s') l.1 ∙ r)
+        (λ s' a' n. broke (k s') (broke (form_word s' cap p) (take_err opening (next_tok s' a').what (next_tok s' a').place (next_tok s' a').after n))))
+        (λ u. after s a f (opening ∷ []) u.0 (take_is opening s a u.0 u.1) (λ ts c. c) (λ ts m. m) (λ pre c. (pre, c, refl))
+        (λ s' a' b' j l r. ap (λ z. bind z (k s')) (chain (form_word s' cap p) (take_of opening s' a' l.0) refl) ∙ ap (form_part s') l.1 ∙ r)
         (in_bracket u.0 u.2))
-        (unbind_err (opens (next_tok s a)) (form_word s cap p) f e)
+        (unbind_err (takes opening (next_tok s a)) (form_word s cap p) f e)
 
   -- the items of each form
 

@@ -1,5 +1,4 @@
 mod Spots
-mod Scopes
 mod Steps
 mod Whole
 mod Tables

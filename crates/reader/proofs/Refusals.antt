@@ -1,26 +1,25 @@
 -- A refused text is refused at its first token at fault.
-use Rattle.std.proofs.Common.{◌≡◌, ℕ, ◌+◌, ◌<◌, ◌≤◌, Bool, true, false, leb, List, [], ◌∷◌, ◌++◌, length, Ok, Err, codes, Result, sym, refl, ap, ◌∙◌, subst, ⊎_elim, append_assoc, append-nil, arith, Bor}
-use Rattle.std.proofs.lemmas.Bool.{cond-true, cond-false, le-leb, lt-leb, false≢true}
-use Rattle.std.specs.Str.{bytes_eq}
+use Rattle.std.proofs.Common.{◌≡◌, ℕ, ◌+◌, ◌<◌, ◌≤◌, leb, List, [], ◌∷◌, ◌++◌, length, Ok, Err, codes, Result, sym, refl, ap, ◌∙◌, subst, ⊎_elim, append_assoc, append-nil, arith, Bor}
+use Rattle.std.proofs.lemmas.Bool.{cond-true, cond-false, le-leb, lt-leb}
 use Rattle.common.specs.declared.fault.Located.{Located}
 use Rattle.formtable.specs.declared.record.Record.{Record}
 use Rattle.lexer.specs.declared.fault.TextFault.{TextFault}
 use Rattle.lexer.specs.declared.fault.TextFault.TheVariants.{TooLong}
 use Rattle.lexer.specs.Lex.{Tok, opening, closing, word}
 use Rattle.reader.specs.declared.reading.Plan.{Plan}
-use Rattle.reader.specs.Tokens.{fault_at, bind, token, ending, next_tok, letters_by, opens, closes, words, ends}
-use Rattle.reader.specs.Reading.{key_by, key_at, Outline, outlined, term_at, read_plan, Told}
+use Rattle.reader.specs.Tokens.{fault_at, bind, token, ending, next_tok, takes, words, ends}
+use Rattle.reader.specs.Reading.{Outline, outlined, term_at, read_plan, Told}
 use Rattle.reader.specs.Plans.{Tree, stop, spell, spell_plan, Stands, Spelt, size, flatten, Good}
 use Rattle.reader.specs.Stops.{BeginsPlan, IsPlan, Ahead, FirstFault, Stops}
 use Rattle.reader.proofs.Contexts.{Context, Then, at_first}
 use Rattle.reader.proofs.Faults.{Part, By, AtItems, no_word, no_close, no_term, past_word, past_term, in_term_at}
-use Rattle.reader.proofs.Grammar.{Item, name, inner, rest, first, bytes, After, word_out, close_out, term_out}
+use Rattle.reader.proofs.Grammar.{Item, name, inner, rest, After, word_out, close_out, term_out}
 use Rattle.reader.proofs.Grammar.{shut as shutting}
-use Rattle.reader.proofs.Spellings.{ok_err, open_is, close_is, word_is, open_of, close_of, word_of, spelt_append, spelt_split, Found, sound, complete}
-use Rattle.reader.proofs.Spots.{open_err, word_err, end_err}
+use Rattle.reader.proofs.Spellings.{ok_err, take_is, word_is, take_of, word_of, spelt_append, spelt_split, Found, sound, complete}
+use Rattle.reader.proofs.Spots.{take_err, end_err}
 use Rattle.reader.proofs.Steps.{chain, broke}
-use Rattle.reader.proofs.Stopping.{unbind_err, err_same, IsWord, not_open, not_word, not_end, StopsAt, here, odd, after}
-use Rattle.reader.proofs.Texts.{keyed, key_of}
+use Rattle.reader.proofs.Stopping.{unbind_err, err_same, not_taken, not_end, StopsAt, here, after}
+use Rattle.reader.proofs.Texts.{keyword}
 
 -- another way on is refused where this one is
 bind_err : {A B C : Type 0} (x : Result A (Located TextFault)) (k : A → Result B (Located TextFault)) (j : A → Result C (Located TextFault)) (g : Located TextFault) → bind x k ≡ Err g → ((a : A) → k a ≡ Err g → j a ≡ Err g) → bind x j ≡ Err g
@@ -33,7 +32,7 @@ abbrev last_of : List ℕ → (List Record → Outline) → List Record → ℕ 
 last_of s out ns e = bind (ends (next_tok s e)) (λ z. Ok (out ns))
 
 abbrev closing_of : List ℕ → (List Record → Outline) → ℕ × List Record → Result Outline (Located TextFault)
-closing_of s out t = bind (closes (next_tok s t.0)) (last_of s out t.1)
+closing_of s out t = bind (takes closing (next_tok s t.0)) (last_of s out t.1)
 
 abbrev term_from : ℕ → (List Record → Outline) → Part Outline
 term_from cap out s b = bind (term_at 64 s cap b 0 [] 0) (closing_of s out)
@@ -42,19 +41,19 @@ abbrev name_from : ℕ → Part Outline
 name_from cap s b = bind (words (next_tok s b)) (λ w. term_from cap (outlined w (next_tok s b).place) s (next_tok s b).after)
 
 abbrev plan_from : ℕ → Part Outline
-plan_from cap s a = bind (opens (next_tok s a)) (λ b. bind (key_at s b) (name_from cap s))
+plan_from cap s a = bind (takes opening (next_tok s a)) (λ b. bind (takes keyword (next_tok s b)) (name_from cap s))
 
 -- the name does not count for a refusal
 unnamed : (cap : ℕ) (out other : List Record → Outline) (s : List ℕ) (b : ℕ) (g : Located TextFault) → term_from cap out s b ≡ Err g → term_from cap other s b ≡ Err g
 unnamed cap out other s b g e = bind_err (term_at 64 s cap b 0 [] 0) (closing_of s out) (closing_of s other) g e
-    (λ t d. bind_err (closes (next_tok s t.0)) (last_of s out t.1) (last_of s other t.1) g d
+    (λ t d. bind_err (takes closing (next_tok s t.0)) (last_of s out t.1) (last_of s other t.1) g d
     (λ b c. bind_err (ends (next_tok s b)) (λ z. Ok (out t.1)) (λ z. Ok (other t.1)) g c (λ z q. absurd (ok_err q))))
 
 abbrev plan_items : List Item
 plan_items = name ∷ (inner ∷ (shutting ∷ []))
 
 abbrev key : List Tok
-key = opening ∷ (word (codes "plan") ∷ [])
+key = opening ∷ (keyword ∷ [])
 
 made_plan : (ts : List Tok) → After plan_items ts [] → (x : List ℕ) × (t : Tree) × (spell_plan x t ≡ opening ∷ (word (codes "plan") ∷ ts))
 made_plan ts (w, us, e, (t, vs, d, (ws, c, z))) = (w, t, ap (λ y. opening ∷ (word (codes "plan") ∷ y)) (sym (e ∙ ap (λ y. word w ∷ y) (d ∙ ap (λ y. spell t ++ y) (c ∙ ap (λ y. closing ∷ y) z)))))
@@ -74,33 +73,23 @@ module _ (cap : ℕ) (s : List ℕ) (f : Located TextFault) where
   AtPlan a = StopsAt cap BeginsPlan IsPlan Nothing (By (plan_from cap)) s a f
 
   abbrev AtKey : ℕ → Type 0
-  AtKey a = StopsAt cap (λ ts. BeginsPlan (opening ∷ ts)) (λ ts. IsPlan (opening ∷ ts)) (λ ts. Unit {0}) (By (λ s' b. bind (key_at s' b) (name_from cap s'))) s a f
+  AtKey a = StopsAt cap (λ ts. BeginsPlan (opening ∷ ts)) (λ ts. IsPlan (opening ∷ ts)) (λ ts. Unit {0}) (By (λ s' b. bind (takes keyword (next_tok s' b)) (name_from cap s'))) s a f
 
   -- the bracket, the word plan, and the rest
-  no_open : (a : ℕ) → opens (next_tok s a) ≡ Err f → AtPlan a
-  no_open a e = here s a f (λ j. j ≡ token opening) (not_open (next_tok s a).what (next_tok s a).place (next_tok s a).after f e) (codes "x", stop, _, refl)
+  no_open : (a : ℕ) → takes opening (next_tok s a) ≡ Err f → AtPlan a
+  no_open a e = here s a f (λ j. j ≡ token opening) (not_taken opening (next_tok s a).what (next_tok s a).place (next_tok s a).after f e) (codes "x", stop, _, refl)
       (λ more k m. subst (Ahead (next_tok s a).what) (sym m.2) k)
-      (λ s' a' n. broke _ (open_err (next_tok s' a').what (next_tok s' a').place (next_tok s' a').after n))
+      (λ s' a' n. broke _ (take_err opening (next_tok s' a').what (next_tok s' a').place (next_tok s' a').after n))
 
-  no_key : (a : ℕ) → key_at s a ≡ Err f → AtKey a
-  no_key a e = ⊎_elim
-      (λ h. here s a f IsWord (not_word (next_tok s a).what (next_tok s a).place f h) (codes "x", stop, _, refl)
-      (λ more k m. (codes "plan", subst (Ahead (next_tok s a).what) (sym (ap rest m.2)) k))
-      (λ s' a' n. broke (name_from cap s') (broke _ (word_err (next_tok s' a').what (next_tok s' a').place (λ w d. n (w, d))))))
-      (λ u. by u.0 (bytes_eq u.0 (codes "plan")) refl (word_is s a u.0 u.1) u.2)
-      (unbind_err (words (next_tok s a)) (λ w. key_by (next_tok s a) (bytes_eq w (codes "plan"))) f e)
-    where
-      by : (w : List ℕ) (b : Bool) → bytes_eq w (codes "plan") ≡ b → Stands s (word w) a → key_by (next_tok s a) b ≡ Err f → AtKey a
-      by w true i h e = absurd (ok_err e)
-      by w false i h e = odd s a f w h (err_same e) (codes "x", stop, _, refl)
-          (λ v more st m. false≢true (sym i ∙ ap (λ z. bytes_eq z (codes "plan")) (ap letters_by (sym h ∙ st) ∙ sym (ap (λ z. bytes (first (rest z))) m.2))))
-          (λ more m. (codes "plan", _, sym (ap rest m.2)))
-          (λ s' a' st. broke (name_from cap s') (chain (λ w. key_by (next_tok s' a') (bytes_eq w (codes "plan"))) (word_of s' w a' st) (ap (key_by (next_tok s' a')) i)))
+  no_key : (a : ℕ) → takes keyword (next_tok s a) ≡ Err f → AtKey a
+  no_key a e = here s a f (λ j. j ≡ token keyword) (not_taken keyword (next_tok s a).what (next_tok s a).place (next_tok s a).after f e) (codes "x", stop, _, refl)
+      (λ more k m. subst (Ahead (next_tok s a).what) (sym (ap rest m.2)) k)
+      (λ s' a' n. broke (name_from cap s') (take_err keyword (next_tok s' a').what (next_tok s' a').place (next_tok s' a').after n))
 
   -- reading on after these two tokens, of any text
   from_key : (s' : List ℕ) (a b : ℕ) → Spelt s' key a b → plan_from cap s' a ≡ name_from cap s' b
-  from_key s' a b l = chain (λ b. bind (key_at s' b) (name_from cap s')) (open_of s' a l.0)
-      (chain (name_from cap s') (key_of s' (next_tok s' a).after l.1.0) (ap (name_from cap s') l.1.1))
+  from_key s' a b l = chain (λ b. bind (takes keyword (next_tok s' b)) (name_from cap s')) (take_of opening s' a l.0)
+      (chain (name_from cap s') (take_of keyword s' (next_tok s' a).after l.1.0) (ap (name_from cap s') l.1.1))
 
   past_key : (a b : ℕ) → Spelt s key a b → AtItems cap s f plan_items (Then Nothing key) (name_from cap) b → AtPlan a
   past_key a b h x = after s a f {R' = By (name_from cap)} key b h
@@ -119,7 +108,7 @@ module _ (cap : ℕ) (s : List ℕ) (f : Located TextFault) where
       from_key s' a c (l.0, (l.1.0, refl))
       ∙ chain (λ w. term_from cap (outlined w n.place) s' n.after) (word_of s' x c l.1.1.0)
       (chain (closing_of s' out) (complete t 64 s' cap n.after 0 [] 0 q.0 (omega arith) q.1 good few fits)
-      (chain (last_of s' out (flatten [] 0 t)) (close_of s' q.0 q.2.0)
+      (chain (last_of s' out (flatten [] 0 t)) (take_of closing s' q.0 q.2.0)
       (ap (last_of s' out (flatten [] 0 t)) q.2.1 ∙ broke (λ y. Ok (out (flatten [] 0 t))) r)))
 
   -- nothing stands after a plan
@@ -143,11 +132,11 @@ module _ (cap : ℕ) (s : List ℕ) (f : Located TextFault) where
         (λ d. past_name a b w out h k (past_term cap s f (shutting ∷ []) (term_from cap out) (λ s' b'. closing_of s' out (b', x.1)) (next_tok s b).after x.0 t.tree t.spelt
         (λ s' a' b' sp. chain (closing_of s' out) (complete t.tree 64 s' cap a' 0 [] 0 b' (omega arith) sp t.good t.few t.fits ∙ ap (λ z. Ok (b', z)) (sym t.table)) refl)
         (no_close cap s f [] (λ s' e. last_of s' out x.1 e) x.0 d)))
-        (λ u. let whole = spelt_append s (spell t.tree) (closing ∷ []) (next_tok s b).after x.0 u.0 t.spelt (close_is s x.0 u.0 u.1) in
+        (λ u. let whole = spelt_append s (spell t.tree) (closing ∷ []) (next_tok s b).after x.0 u.0 t.spelt (take_is closing s x.0 u.0 u.1) in
         ⊎_elim (no_end w t.tree a u.0 t.good t.few t.fits (spelt_append s key (word w ∷ (spell t.tree ++ (closing ∷ []))) a b u.0 h (k, whole)))
         (λ j. absurd (ok_err j.2))
         (unbind_err (ends (next_tok s u.0)) (λ z. Ok (out x.1)) f u.2))
-        (unbind_err (closes (next_tok s x.0)) (last_of s out x.1) f e)
+        (unbind_err (takes closing (next_tok s x.0)) (last_of s out x.1) f e)
 
     in_named : term_from cap out s (next_tok s b).after ≡ Err f → AtPlan a
     in_named e = let c = (next_tok s b).after in ⊎_elim
@@ -161,18 +150,18 @@ module _ (cap : ℕ) (s : List ℕ) (f : Located TextFault) where
       (λ u. in_named a b u.0 (outlined u.0 (next_tok s b).place) h (word_is s b u.0 u.1) u.2)
       (unbind_err (words (next_tok s b)) (λ w. term_from cap (outlined w (next_tok s b).place) s (next_tok s b).after) f e)
 
-  in_opened : (a b : ℕ) → Spelt s (opening ∷ []) a b → bind (key_at s b) (name_from cap s) ≡ Err f → AtPlan a
+  in_opened : (a b : ℕ) → Spelt s (opening ∷ []) a b → bind (takes keyword (next_tok s b)) (name_from cap s) ≡ Err f → AtPlan a
   in_opened a b h e = ⊎_elim
-      (λ d. after s a f {R' = By (λ s' b. bind (key_at s' b) (name_from cap s'))} (opening ∷ []) b h (λ ts c. c) (λ ts m. m) (λ pre c. tt)
-      (λ s' a' b' g l r. chain (λ b. bind (key_at s' b) (name_from cap s')) (open_of s' a' l.0) (ap (λ z. bind (key_at s' z) (name_from cap s')) l.1 ∙ r))
+      (λ d. after s a f {R' = By (λ s' b. bind (takes keyword (next_tok s' b)) (name_from cap s'))} (opening ∷ []) b h (λ ts c. c) (λ ts m. m) (λ pre c. tt)
+      (λ s' a' b' g l r. chain (λ b. bind (takes keyword (next_tok s' b)) (name_from cap s')) (take_of opening s' a' l.0) (ap (λ z. bind (takes keyword (next_tok s' z)) (name_from cap s')) l.1 ∙ r))
       (no_key b d))
-      (λ u. let k = keyed s b u.0 u.1 in in_keyed a u.0 (spelt_append s (opening ∷ []) (word (codes "plan") ∷ []) a b u.0 h (k.0, k.1)) u.2)
-      (unbind_err (key_at s b) (name_from cap s) f e)
+      (λ u. let k = take_is keyword s b u.0 u.1 in in_keyed a u.0 (spelt_append s (opening ∷ []) (keyword ∷ []) a b u.0 h (k.0, k.1)) u.2)
+      (unbind_err (takes keyword (next_tok s b)) (name_from cap s) f e)
 
   in_plan : plan_from cap s 0 ≡ Err f → AtPlan 0
   in_plan e = ⊎_elim (no_open 0)
-      (λ u. in_opened 0 u.0 (open_is s 0 u.0 u.1) u.2)
-      (unbind_err (opens (next_tok s 0)) (λ a. bind (key_at s a) (name_from cap s)) f e)
+      (λ u. in_opened 0 u.0 (take_is opening s 0 u.0 u.1) u.2)
+      (unbind_err (takes opening (next_tok s 0)) (λ a. bind (takes keyword (next_tok s a)) (name_from cap s)) f e)
 
 -- a text that is not too long is read from its plan
 short_read : (s : List ℕ) (cap : ℕ) → length s ≤ 16384 → read_plan s cap ≡ plan_from cap s 0

@@ -1,22 +1,22 @@
 -- What is read is what is spelt.
-use Rattle.std.proofs.Common.{◌≡◌, ℕ, zero, suc, ◌+◌, ◌<◌, ◌≤◌, Bool, true, false, cond, ltb, leb, List, [], ◌∷◌, ◌++◌, length, Some, None, Ok, Err, codes, Option, Result, unwrap_or, sym, refl, ap, ◌∙◌, subst, arith}
+use Rattle.std.proofs.Common.{◌≡◌, ℕ, zero, suc, ◌+◌, ◌<◌, ◌≤◌, ltb, leb, List, [], ◌∷◌, ◌++◌, length, Some, Ok, Err, codes, Option, Result, unwrap_or, sym, refl, ap, ◌∙◌, subst, arith}
 use Rattle.std.proofs.lemmas.Slice.Eq.{bytes_eq-Decides}
-use Rattle.std.proofs.lemmas.Bool.{cond-true, cond-false, leb-false, leb-true, lt-leb, le-leb}
-use Rattle.std.specs.Str.{bytes_eq}
+use Rattle.std.proofs.lemmas.Bool.{cond-true, cond-false, lt-leb, le-leb}
 use Rattle.common.specs.declared.fault.Located.{Located}
 use Rattle.formtable.specs.declared.record.Record.{Record}
 use Rattle.formtable.specs.Kinds.{row}
 use Rattle.lexer.specs.declared.fault.TextFault.{TextFault}
-use Rattle.lexer.specs.declared.fault.TextFault.TheVariants.{NotGuarded, TooManyForms, ListShort}
+use Rattle.lexer.specs.declared.fault.TextFault.TheVariants.{TooManyForms}
 use Rattle.lexer.specs.Lex.{Tok, opening, closing, word}
 use Rattle.motions.specs.Naming.{motion_of}
 use Rattle.motions.proofs.Lookups.{one_to_one}
 use Rattle.reader.specs.declared.heads.Shape.{Shape}
 use Rattle.reader.specs.declared.heads.Shape.TheVariants.{End, Do, Tau, Or, Rec, Go}
-use Rattle.reader.specs.Tokens.{fault_at, bind, Next, token, ending, bad, Spot, next_tok, opens_by, closes_by, words_by, opens, closes, words}
+use Rattle.reader.specs.Tokens.{fault_at, bind, Next, token, Spot, next_tok, takes_by, words_by, takes, words}
 use Rattle.reader.specs.Reading.{shape_of, room_for, form_by, form_word, head_at, motion_by, motion_at, Bound, binds, lookup, target_by, go_target_at, Outcome, shut, body, step, term_at}
 use Rattle.reader.specs.Plans.{Tree, stop, act, tau, or, loop, again, spell, Stands, Spelt, size, flatten, Good}
 use Rattle.reader.proofs.Tables.{length_flatten}
+use Rattle.reader.proofs.Spots.{same_is, same_self}
 use Rattle.reader.proofs.Steps.{unroll, chain}
 
 -- the tree at a, read with its first record at p, and its records
@@ -31,41 +31,22 @@ pub record Found (s : List ℕ) (cap a p : ℕ) (env : List Bound) (g b : ℕ) (
 -- inversion
 
 pub ok_err : {A : Type 0} {x : A} {f : Located TextFault} → ◌≡◌ {A = Result A (Located TextFault)} (Ok x) (Err f) → ⊥
-ok_err {A} {x} {f} e = let z : ◌≡◌ {A = ℕ} 0 1 = cc in omega arith
+ok_err {A} {x} {f} e = cc
 
 pub unbind : {A B : Type 0} (x : Result A (Located TextFault)) (k : A → Result B (Located TextFault)) (y : B) → bind x k ≡ Ok y → (a : A) × (x ≡ Ok a) × (k a ≡ Ok y)
-unbind (Ok a) k y e = (a, refl, e)
-unbind (Err f) k y e = absurd (ok_err (sym e))
+unbind {A} {B} x k y e = grind arith
 
-pub opened : (k : Next) (p e a : ℕ) → opens_by k p e ≡ Ok a → (k ≡ token opening) × (e ≡ a)
-opened (token opening) p e a h = (refl, (cc))
-opened (token closing) p e a h = absurd (ok_err (sym h))
-opened (token (word w)) p e a h = absurd (ok_err (sym h))
-opened ending p e a h = absurd (ok_err (sym h))
-opened bad p e a h = absurd (ok_err (sym h))
-
-pub closed : (k : Next) (p e a : ℕ) → closes_by k p e ≡ Ok a → (k ≡ token closing) × (e ≡ a)
-closed (token opening) p e a h = absurd (ok_err (sym h))
-closed (token closing) p e a h = (refl, (cc))
-closed (token (word w)) p e a h = absurd (ok_err (sym h))
-closed ending p e a h = absurd (ok_err (sym h))
-closed bad p e a h = absurd (ok_err (sym h))
+pub taken : (t : Tok) (k : Next) (p e a : ℕ) → takes_by t k p e ≡ Ok a → (k ≡ token t) × (e ≡ a)
+taken t k p e a h = grind (arith, bytes_eq-Decides)
 
 worded : (k : Next) (p : ℕ) (w : List ℕ) → words_by k p ≡ Ok w → k ≡ token (word w)
-worded (token opening) p w h = absurd (ok_err (sym h))
-worded (token closing) p w h = absurd (ok_err (sym h))
-worded (token (word v)) p w h = cc
-worded ending p w h = absurd (ok_err (sym h))
-worded bad p w h = absurd (ok_err (sym h))
+worded k p w h = grind arith
 
 pub word_is : (s : List ℕ) (a : ℕ) (w : List ℕ) → words (next_tok s a) ≡ Ok w → Stands s (word w) a
 word_is s a w e = worded (next_tok s a).what (next_tok s a).place w e
 
-pub open_is : (s : List ℕ) (at a : ℕ) → opens (next_tok s at) ≡ Ok a → Spelt s (opening ∷ []) at a
-open_is s at a e = opened (next_tok s at).what (next_tok s at).place (next_tok s at).after a e
-
-pub close_is : (s : List ℕ) (at a : ℕ) → closes (next_tok s at) ≡ Ok a → Spelt s (closing ∷ []) at a
-close_is s at a e = closed (next_tok s at).what (next_tok s at).place (next_tok s at).after a e
+pub take_is : (t : Tok) (s : List ℕ) (at a : ℕ) → takes t (next_tok s at) ≡ Ok a → Stands s t at × ((next_tok s at).after ≡ a)
+take_is t s at a e = taken t (next_tok s at).what (next_tok s at).place (next_tok s at).after a e
 
 abbrev pub word_for : Shape → List ℕ
 word_for End = codes "end"
@@ -77,28 +58,10 @@ word_for Go = codes "go"
 
 -- a form word is spelt in one way
 pub shaped : (w : List ℕ) (f : Shape) → shape_of w ≡ Some f → w ≡ word_for f
-shaped w f e = pick (bytes_eq w (codes "end")) refl End (λ h. (bytes_eq-Decides w (codes "end")).0 h) e
-    (λ e. pick (bytes_eq w (codes "do")) refl Do (λ h. (bytes_eq-Decides w (codes "do")).0 h) e
-    (λ e. pick (bytes_eq w (codes "tau")) refl Tau (λ h. (bytes_eq-Decides w (codes "tau")).0 h) e
-    (λ e. pick (bytes_eq w (codes "or")) refl Or (λ h. (bytes_eq-Decides w (codes "or")).0 h) e
-    (λ e. pick (bytes_eq w (codes "rec")) refl Rec (λ h. (bytes_eq-Decides w (codes "rec")).0 h) e
-    (λ e. pick (bytes_eq w (codes "go")) refl Go (λ h. (bytes_eq-Decides w (codes "go")).0 h) e
-    (λ e. let z : ◌≡◌ {A = ℕ} 0 1 = cc in absurd (omega arith)))))))
-  where
-    pick : (b : Bool) {c : Bool} → c ≡ b → (S : Shape) → (c ≡ true → w ≡ word_for S) → {o : Option Shape} → cond b (Some S) o ≡ Some f → (o ≡ Some f → w ≡ word_for f) → w ≡ word_for f
-    pick true i S h e n = h i ∙ ap word_for (some_same S f e)
-      where
-        some_same : (S f : Shape) → Some S ≡ Some f → S ≡ f
-        some_same S f e = cc
-    pick false i S h e n = n e
+shaped w f e = grind (arith, bytes_eq-Decides)
 
 pub formed : (f : Shape) → shape_of (word_for f) ≡ Some f
-formed End = refl
-formed Do = refl
-formed Tau = refl
-formed Or = refl
-formed Rec = refl
-formed Go = refl
+formed f = grind arith
 
 -- the inversions at the text
 
@@ -109,77 +72,33 @@ pub record Headed (s : List ℕ) (cap at p : ℕ) (f : Shape) (a : ℕ) : Type 0
   pub few : p < 64
   pub fits : p < cap
 
-roomy : (cap p : ℕ) (t : Spot) (f f' : Shape) (a : ℕ) → room_for cap p t f ≡ Ok (f', a) → (f ≡ f') × (t.after ≡ a) × (p < 64) × (p < cap)
-roomy cap p t f f' a h = one (leb 64 p) refl h
-  where
-    part : Result (Shape × ℕ) (Located TextFault) → Shape × ℕ
-    part (Ok x) = x
-    part (Err y) = (f, t.after)
-
-    two : leb 64 p ≡ false → (b : Bool) → leb cap p ≡ b → cond {A = Result (Shape × ℕ) (Located TextFault)} b (Err (fault_at ListShort t.place)) (Ok (f, t.after)) ≡ Ok (f', a) → (f ≡ f') × (t.after ≡ a) × (p < 64) × (p < cap)
-    two i true j h = absurd (ok_err (sym h))
-    two i false j h = let q = ap part h in (ap (λ z. z.0) q, ap (λ z. z.1) q, leb-false 64 p i, leb-false cap p j)
-
-    one : (b : Bool) → leb 64 p ≡ b → cond {A = Result (Shape × ℕ) (Located TextFault)} b (Err (fault_at TooManyForms t.place)) (cond (leb cap p) (Err (fault_at ListShort t.place)) (Ok (f, t.after))) ≡ Ok (f', a) → (f ≡ f') × (t.after ≡ a) × (p < 64) × (p < cap)
-    one true i h = absurd (ok_err (sym h))
-    one false i h = two i (leb cap p) refl h
-
 formed_by : (cap p : ℕ) (t : Spot) (o : Option Shape) (f : Shape) (a : ℕ) → form_by cap p t o ≡ Ok (f, a) → (o ≡ Some f) × (t.after ≡ a) × (p < 64) × (p < cap)
-formed_by cap p t None f a e = absurd (ok_err (sym e))
-formed_by cap p t (Some g) f a e = let r = roomy cap p t g f a e in (ap Some r.0, r.1, r.2, r.3)
+formed_by cap p t o f a e = grind arith
 
 pub headed : (s : List ℕ) (cap at p : ℕ) (f : Shape) (a : ℕ) → head_at s cap at p ≡ Ok (f, a) → Headed s cap at p f a
 headed s cap at p f a e =
-    let u = unbind (opens (next_tok s at)) (form_word s cap p) _ e in
-    let o = open_is s at u.0 u.1 in
+    let u = unbind (takes opening (next_tok s at)) (form_word s cap p) _ e in
+    let o = take_is opening s at u.0 u.1 in
     let b = (next_tok s at).after in
     let rest = subst (λ z. form_word s cap p z ≡ Ok (f, a)) (sym o.1) u.2 in
     let v = unbind (words (next_tok s b)) (λ w. form_by cap p (next_tok s b) (shape_of w)) _ rest in
     let m = formed_by cap p (next_tok s b) (shape_of v.0) f a v.2 in
     record { opn = o.0; wrd = word_is s b v.0 v.1 ∙ ap (λ z. token (word z)) (shaped v.0 f m.0); after = m.1; few = m.2; fits = m.3 }
 
+by_motion : (m a : ℕ) (t : Spot) (o : Option ℕ) → motion_by t o ≡ Ok (m, a) → (o ≡ Some m) × (t.after ≡ a)
+by_motion m a t o e = grind arith
+
 pub moved : (s : List ℕ) (at m a : ℕ) → motion_at s at ≡ Ok (m, a) → (w : List ℕ) × Stands s (word w) at × (motion_of w ≡ Some m) × ((next_tok s at).after ≡ a)
 moved s at m a e =
     let v = unbind (words (next_tok s at)) (λ w. motion_by (next_tok s at) (motion_of w)) _ e in
-    let x = by (next_tok s at) (motion_of v.0) v.2 in
+    let x = by_motion m a (next_tok s at) (motion_of v.0) v.2 in
     (v.0, word_is s at v.0 v.1, x.0, x.1)
-  where
-    pair : Result (ℕ × ℕ) (Located TextFault) → ℕ × ℕ
-    pair (Ok x) = x
-    pair (Err f) = (0, 0)
-
-    by : (t : Spot) (o : Option ℕ) → motion_by t o ≡ Ok (m, a) → (o ≡ Some m) × (t.after ≡ a)
-    by t None e = absurd (ok_err (sym e))
-    by t (Some k) e = let q = ap pair e in (ap (λ z. Some z.0) q, ap (λ z. z.1) q)
 
 pub aimed : (s : List ℕ) (env : List Bound) (g at k a : ℕ) → go_target_at s env g at ≡ Ok (k, a) → (w : List ℕ) × Stands s (word w) at × (lookup env w ≡ Some k) × (k < g) × ((next_tok s at).after ≡ a)
-aimed s env g at k a e =
-    let v = unbind (words (next_tok s at)) (λ w. target_by g (next_tok s at) (lookup env w)) _ e in
-    let x = by (next_tok s at) (lookup env v.0) v.2 in
-    (v.0, word_is s at v.0 v.1, x.0, x.1, x.2)
-  where
-    pair : Result (ℕ × ℕ) (Located TextFault) → ℕ × ℕ
-    pair (Ok x) = x
-    pair (Err f) = (0, 0)
-
-    guard : (t : Spot) (i : ℕ) (b : Bool) → ltb i g ≡ b → cond {A = Result (ℕ × ℕ) (Located TextFault)} b (Ok (i, t.after)) (Err (fault_at NotGuarded t.place)) ≡ Ok (k, a) → (Some i ≡ Some k) × (k < g) × (t.after ≡ a)
-    guard t i true l e = let q = ap pair e in (ap (λ z. Some z.0) q, subst (λ z. z < g) (ap (λ z. z.0) q) (leb-true (suc i) g l), ap (λ z. z.1) q)
-    guard t i false l e = absurd (ok_err (sym e))
-
-    by : (t : Spot) (o : Option ℕ) → target_by g t o ≡ Ok (k, a) → (o ≡ Some k) × (k < g) × (t.after ≡ a)
-    by t None e = absurd (ok_err (sym e))
-    by t (Some i) e = guard t i (ltb i g) refl e
+aimed s env g at k a e = grind arith
 
 shuts : (s : List ℕ) (at : ℕ) (ns : List Record) (b : ℕ) (ms : List Record) → shut s at ns ≡ Ok (b, ms) → Spelt s (closing ∷ []) at b × (ms ≡ ns)
-shuts s at ns b ms e =
-    let u = unbind (closes (next_tok s at)) (λ a. Ok (a, ns)) _ e in
-    let o = close_is s at u.0 u.1 in
-    let q = ap pair u.2 in
-    ((o.0, o.1 ∙ ap (λ z. z.0) q), sym (ap (λ z. z.1) q))
-  where
-    pair : Outcome → ℕ × List Record
-    pair (Ok x) = x
-    pair (Err f) = (0, [])
+shuts s at ns b ms e = grind (arith, same_is)
 
 pub spelt_append : (s : List ℕ) (ts us : List Tok) (a b c : ℕ) → Spelt s ts a b → Spelt s us b c → Spelt s (ts ++ us) a c
 spelt_append s [] us a b c h k = subst (λ z. Spelt s us z c) (sym h) k
@@ -283,16 +202,13 @@ room_of cap p t f h k = cond-false (leb 64 p) _ _ (lt-leb 64 p h) ∙ cond-false
 pub word_of : (s : List ℕ) (w : List ℕ) (a : ℕ) → Stands s (word w) a → words (next_tok s a) ≡ Ok w
 word_of s w a h = ap (λ k. words_by k (next_tok s a).place) h
 
-pub open_of : (s : List ℕ) (a : ℕ) → Stands s opening a → opens (next_tok s a) ≡ Ok (next_tok s a).after
-open_of s a h = ap (λ k. opens_by k (next_tok s a).place (next_tok s a).after) h
-
-pub close_of : (s : List ℕ) (a : ℕ) → Stands s closing a → closes (next_tok s a) ≡ Ok (next_tok s a).after
-close_of s a h = ap (λ k. closes_by k (next_tok s a).place (next_tok s a).after) h
+pub take_of : (t : Tok) (s : List ℕ) (a : ℕ) → Stands s t a → takes t (next_tok s a) ≡ Ok (next_tok s a).after
+take_of t s a h = ap (λ k. takes_by t k (next_tok s a).place (next_tok s a).after) h ∙ cond-true _ _ _ (same_self t)
 
 pub head_of : (s : List ℕ) (cap at p : ℕ) (f : Shape) → Stands s opening at → Stands s (word (word_for f)) (next_tok s at).after → p < 64 → p < cap → head_at s cap at p ≡ Ok (f, (next_tok s (next_tok s at).after).after)
 head_of s cap at p f o w h k =
     let b = (next_tok s at).after in
-    chain (form_word s cap p) (open_of s at o)
+    chain (form_word s cap p) (take_of opening s at o)
     (chain (λ w. form_by cap p (next_tok s b) (shape_of w)) (word_of s (word_for f) b w)
     (ap (form_by cap p (next_tok s b)) (formed f) ∙ room_of cap p (next_tok s b) f h k))
 
@@ -305,7 +221,7 @@ target_of s env g w at k h e l =
     (ap (target_by g (next_tok s at)) e ∙ cond-true (ltb k g) _ _ (le-leb (suc k) g l))
 
 shut_of : (s : List ℕ) (at b : ℕ) (ns : List Record) → Spelt s (closing ∷ []) at b → shut s at ns ≡ Ok (b, ns)
-shut_of s at b ns h = chain (λ a. Ok (a, ns)) (close_of s at h.0) (ap (λ z. Ok (z, ns)) h.1)
+shut_of s at b ns h = chain (λ a. Ok (a, ns)) (take_of closing s at h.0) (ap (λ z. Ok (z, ns)) h.1)
 
 pub spelt_split : (s : List ℕ) (ts us : List Tok) (a c : ℕ) → Spelt s (ts ++ us) a c → (b : ℕ) × Spelt s ts a b × Spelt s us b c
 spelt_split s [] us a c h = (a, refl, h)

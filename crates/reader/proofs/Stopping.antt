@@ -1,23 +1,20 @@
 -- The first token at fault from a place on, and how it is found one part at a time.
-use Rattle.std.proofs.Common.{◌≡◌, ℕ, ◌⊎◌, List, [], ◌∷◌, ◌++◌, Ok, Err, Result, sym, refl, ap, ◌∙◌, subst, inl, inr, ⊎_elim, append_assoc, append-nil, arith}
+use Rattle.std.proofs.Common.{◌≡◌, ℕ, ◌⊎◌, List, [], ◌∷◌, ◌++◌, Ok, Err, Result, sym, refl, ap, ◌∙◌, subst, ⊎_elim, append_assoc, append-nil, arith}
 use Rattle.common.specs.declared.fault.Located.{Located}
 use Rattle.lexer.specs.declared.fault.TextFault.{TextFault}
 use Rattle.lexer.specs.declared.fault.TextFault.TheVariants.{BadToken, Unexpected}
 use Rattle.lexer.specs.Faults.{text_number}
-use Rattle.lexer.specs.Lex.{Tok, opening, closing, word}
-use Rattle.reader.specs.Tokens.{fault_at, bind, Next, token, ending, bad, next_tok, opens_by, closes_by, words_by, ends_by}
+use Rattle.lexer.specs.Lex.{Tok, word}
+use Rattle.reader.specs.Tokens.{fault_at, bind, Next, token, ending, bad, next_tok, takes_by, words_by, ends_by}
 use Rattle.reader.specs.Tokens.{stray as stray_at}
 use Rattle.reader.specs.Plans.{Stands, Spelt}
 use Rattle.reader.specs.Stops.{Ahead, Wrong}
-use Rattle.reader.proofs.Spellings.{ok_err, spelt_append, spelt_split}
+use Rattle.reader.proofs.Spots.{same_self}
+use Rattle.reader.proofs.Spellings.{spelt_append, spelt_split}
 
 -- a refusal comes from the first part or from the second
 pub unbind_err : {A B : Type 0} (x : Result A (Located TextFault)) (k : A → Result B (Located TextFault)) (f : Located TextFault) → bind x k ≡ Err f → (x ≡ Err f) ⊎ ((a : A) × (x ≡ Ok a) × (k a ≡ Err f))
-unbind_err (Ok a) k f e = inr (a, refl, e)
-unbind_err (Err g) k f e = inl (err g f e)
-  where
-    err : {A B : Type 0} (g f : Located TextFault) → ◌≡◌ {A = Result B (Located TextFault)} (Err g) (Err f) → ◌≡◌ {A = Result A (Located TextFault)} (Err g) (Err f)
-    err g f e = let d : g ≡ f = cc in ap Err d
+unbind_err {A} {B} x k f e = grind arith
 
 pub err_same : {A : Type 0} {f g : Located TextFault} → ◌≡◌ {A = Result A (Located TextFault)} (Err f) (Err g) → g ≡ f
 err_same {A} {f} {g} e = cc
@@ -29,78 +26,39 @@ apart h e = h (ap text_number e)
 -- what no rule allows
 
 stray_place : (k : Next) (p : ℕ) → (stray_at k p).place ≡ p
-stray_place (token t) p = refl
-stray_place ending p = refl
-stray_place bad p = refl
+stray_place k p = grind arith
 
 stray_bad : (k : Next) (p : ℕ) → (stray_at k p).fault ≡ BadToken → k ≡ bad
-stray_bad (token t) p e = absurd (apart {f = Unexpected} {g = BadToken} (λ z. omega arith) e)
-stray_bad ending p e = absurd (apart {f = Unexpected} {g = BadToken} (λ z. omega arith) e)
-stray_bad bad p e = refl
+stray_bad k p e = grind arith
 
 stray_lawful : (k : Next) (p : ℕ) → (stray_at k p).fault ≡ Unexpected → k ≡ bad → ⊥
 stray_lawful k p e b = apart {f = BadToken} {g = Unexpected} (λ z. omega arith) (sym (ap (λ z. (stray_at z p).fault) b) ∙ e)
 
 stray_fault : (k : Next) (p : ℕ) → ((stray_at k p).fault ≡ BadToken) ⊎ ((stray_at k p).fault ≡ Unexpected)
-stray_fault (token t) p = inr refl
-stray_fault ending p = inr refl
-stray_fault bad p = inl refl
+stray_fault k p = grind arith
 
 stray_wrong : (cap : ℕ) (ts : List Tok) (j k : Next) (p : ℕ) → Wrong cap ts j (stray_at k p).fault
-stray_wrong cap ts j (token t) p = tt
-stray_wrong cap ts j ending p = tt
-stray_wrong cap ts j bad p = tt
+stray_wrong cap ts j k p = grind arith
 
 -- and the same wherever it stands
 stray_anywhere : (k : Next) (p q : ℕ) → stray_at k q ≡ fault_at (stray_at k p).fault q
-stray_anywhere (token t) p q = refl
-stray_anywhere ending p q = refl
-stray_anywhere bad p q = refl
+stray_anywhere k p q = grind arith
 
 -- something else than the wanted
 abbrev pub Unlike : (Next → Type 0) → Next → ℕ → Located TextFault → Type 0
 Unlike Want k p f = (Want k → ⊥) × (f ≡ stray_at k p)
 
-abbrev order : Next → ℕ
-order (token opening) = 0
-order (token closing) = 1
-order (token (word w)) = 2
-order ending = 3
-order bad = 4
-
-other : {j k : Next} → (order j ≡ order k → ⊥) → j ≡ k → ⊥
-other h e = h (ap order e)
-
 abbrev pub IsWord : Next → Type 0
 IsWord k = (w : List ℕ) × (k ≡ token (word w))
 
-pub not_open : (k : Next) (p a : ℕ) (f : Located TextFault) → opens_by k p a ≡ Err f → Unlike (λ j. j ≡ token opening) k p f
-not_open (token opening) p a f h = absurd (ok_err h)
-not_open (token closing) p a f h = (other (λ z. omega arith), err_same h)
-not_open (token (word w)) p a f h = (other (λ z. omega arith), err_same h)
-not_open ending p a f h = (other (λ z. omega arith), err_same h)
-not_open bad p a f h = (other (λ z. omega arith), err_same h)
-
-pub not_close : (k : Next) (p a : ℕ) (f : Located TextFault) → closes_by k p a ≡ Err f → Unlike (λ j. j ≡ token closing) k p f
-not_close (token opening) p a f h = (other (λ z. omega arith), err_same h)
-not_close (token closing) p a f h = absurd (ok_err h)
-not_close (token (word w)) p a f h = (other (λ z. omega arith), err_same h)
-not_close ending p a f h = (other (λ z. omega arith), err_same h)
-not_close bad p a f h = (other (λ z. omega arith), err_same h)
+pub not_taken : (t : Tok) (k : Next) (p a : ℕ) (f : Located TextFault) → takes_by t k p a ≡ Err f → Unlike (λ j. j ≡ token t) k p f
+not_taken t k p a f h = grind (arith, same_self)
 
 pub not_word : (k : Next) (p : ℕ) (f : Located TextFault) → words_by k p ≡ Err f → Unlike IsWord k p f
-not_word (token opening) p f h = (λ x. other {j = token opening} {k = token (word x.0)} (λ z. omega arith) x.1, err_same h)
-not_word (token closing) p f h = (λ x. other {j = token closing} {k = token (word x.0)} (λ z. omega arith) x.1, err_same h)
-not_word (token (word w)) p f h = absurd (ok_err h)
-not_word ending p f h = (λ x. other {j = ending} {k = token (word x.0)} (λ z. omega arith) x.1, err_same h)
-not_word bad p f h = (λ x. other {j = bad} {k = token (word x.0)} (λ z. omega arith) x.1, err_same h)
+not_word k p f h = grind arith
 
 pub not_end : (k : Next) (p : ℕ) (f : Located TextFault) → ends_by k p ≡ Err f → Unlike (λ j. j ≡ ending) k p f
-not_end (token opening) p f h = (other (λ z. omega arith), err_same h)
-not_end (token closing) p f h = (other (λ z. omega arith), err_same h)
-not_end (token (word w)) p f h = (other (λ z. omega arith), err_same h)
-not_end ending p f h = absurd (ok_err h)
-not_end bad p f h = (other (λ z. omega arith), err_same h)
+not_end k p f h = grind arith
 
 -- the first token at fault from a on: B says that tokens begin what is read there, M that they are it and more, C which tokens can stand before a;
 -- R s a f says that the text s from a on is refused by f
@@ -168,7 +126,7 @@ module _ {cap : ℕ} {B M C : List Tok → Type 0} {R : List ℕ → ℕ → Loc
       }
     where
       word_bad : token (word w) ≡ bad → ⊥
-      word_bad d = let z : ◌≡◌ {A = ℕ} 2 4 = ap order d in omega arith
+      word_bad d = cc
 
   -- a word stands next with which some spelling goes on
   pub fair : (n : TextFault) → (n ≡ BadToken → ⊥) → (n ≡ Unexpected → ⊥) → f ≡ fault_at n (next_tok s a).place → (w : List ℕ) → Stands s (word w) a → B [] → B (word w ∷ []) → Again R w n

@@ -1,44 +1,31 @@
 -- A text is read exactly when it is a plan that may be read, and what is read is that plan.
-use Rattle.std.proofs.Common.{◌≡◌, ℕ, ◌-◌, ◌≤◌, Bool, true, false, cond, leb, List, [], ◌∷◌, ◌++◌, length, take, drop, replicate, Ok, Err, codes, Result, sym, refl, ap, ◌∙◌, subst, arith, Bor}
-use Rattle.std.proofs.lemmas.Slice.Eq.{bytes_eq-Decides}
+use Rattle.std.proofs.Common.{◌≡◌, ℕ, ◌-◌, ◌≤◌, cond, leb, List, [], ◌∷◌, ◌++◌, length, take, drop, replicate, Ok, Err, codes, Result, sym, refl, ap, ◌∙◌, subst, arith, Bor}
+use Rattle.std.proofs.Math.Seq.{take-append_seam}
 use Rattle.std.proofs.lemmas.List.{drop_at}
-use Rattle.std.proofs.lemmas.Bool.{cond-true, le-leb, leb-true}
-use Rattle.std.specs.Str.{bytes_eq}
+use Rattle.std.proofs.lemmas.Bool.{cond-true, le-leb}
 use Rattle.common.specs.declared.fault.Located.{Located}
 use Rattle.formtable.specs.declared.record.Record.{Record}
 use Rattle.formtable.specs.Places.{term}
 use Rattle.formtable.specs.Vet.{verdict}
 use Rattle.lexer.specs.declared.fault.TextFault.{TextFault}
 use Rattle.lexer.specs.declared.fault.TextFault.TheVariants.{TooLong}
-use Rattle.lexer.specs.Lex.{closing, word}
+use Rattle.lexer.specs.Lex.{Tok, opening, closing, word}
 use Rattle.reader.specs.declared.reading.Plan.{Plan}
-use Rattle.reader.specs.Tokens.{fault_at, Next, token, ending, bad, Spot, next_tok, ends_by, opens, closes, words, ends, PartFrom}
-use Rattle.reader.specs.Reading.{empty_record, key_by, key_at, Outline, outlined, term_at, plan_at, read_plan, Told, Leaves}
+use Rattle.reader.specs.Tokens.{fault_at, Next, token, ending, next_tok, ends_by, takes, words, ends, PartFrom}
+use Rattle.reader.specs.Reading.{empty_record, Outline, outlined, term_at, plan_at, read_plan, Told, Leaves}
 use Rattle.reader.specs.Plans.{Tree, spell, Stands, Spelt, size, flatten, Good}
 use Rattle.reader.specs.Promises.{token_place, Written, Readable, Spells, Vets}
 use Rattle.reader.proofs.Steps.{chain}
 use Rattle.reader.proofs.Tables.{length_flatten, size_above}
 use Rattle.reader.proofs.Vets.{vets}
 use Rattle.reader.proofs.Meanings.{means}
-use Rattle.reader.proofs.Spellings.{ok_err, unbind, open_is, close_is, word_is, open_of, close_of, word_of, spelt_append, spelt_split, sound, complete}
+use Rattle.reader.proofs.Spellings.{ok_err, unbind, take_is, word_is, take_of, word_of, spelt_append, spelt_split, sound, complete}
 
 end_is : (k : Next) (p : ℕ) (z : Unit {0}) → ends_by k p ≡ Ok z → k ≡ ending
-end_is (token t) p z h = absurd (ok_err (sym h))
-end_is ending p z h = refl
-end_is bad p z h = absurd (ok_err (sym h))
+end_is k p z e = grind arith
 
-pub keyed : (s : List ℕ) (a b : ℕ) → key_at s a ≡ Ok b → Stands s (word (codes "plan")) a × ((next_tok s a).after ≡ b)
-keyed s a b e =
-    let v = unbind (words (next_tok s a)) (λ w. key_by (next_tok s a) (bytes_eq w (codes "plan"))) _ e in
-    let x = by (next_tok s a) v.0 (bytes_eq v.0 (codes "plan")) refl v.2 in
-    (word_is s a v.0 v.1 ∙ ap (λ z. token (word z)) x.0, x.1)
-  where
-    by : (t : Spot) (w : List ℕ) (c : Bool) → bytes_eq w (codes "plan") ≡ c → key_by t c ≡ Ok b → (w ≡ codes "plan") × (t.after ≡ b)
-    by t w true i e = ((bytes_eq-Decides w (codes "plan")).0 i, (cc))
-    by t w false i e = absurd (ok_err (sym e))
-
-pub key_of : (s : List ℕ) (a : ℕ) → Stands s (word (codes "plan")) a → key_at s a ≡ Ok (next_tok s a).after
-key_of s a h = chain (λ w. key_by (next_tok s a) (bytes_eq w (codes "plan"))) (word_of s (codes "plan") a h) refl
+abbrev pub keyword : Tok
+keyword = word (codes "plan")
 
 -- the name is the third token
 record Planned (s : List ℕ) (cap : ℕ) (x : Outline) : Type 0 where
@@ -52,20 +39,20 @@ record Planned (s : List ℕ) (cap : ℕ) (x : Outline) : Type 0 where
 
 planned : (s : List ℕ) (cap : ℕ) (x : Outline) → plan_at s cap ≡ Ok x → Planned s cap x
 planned s cap x e =
-    let u = unbind (opens (next_tok s 0)) _ _ e in
-    let o = open_is s 0 u.0 u.1 in
+    let u = unbind (takes opening (next_tok s 0)) _ _ e in
+    let o = take_is opening s 0 u.0 u.1 in
     let a = (next_tok s 0).after in
-    let v = unbind (key_at s u.0) _ _ u.2 in
-    let k = keyed s a v.0 (subst (λ z. key_at s z ≡ Ok v.0) (sym o.1) v.1) in
+    let v = unbind (takes keyword (next_tok s u.0)) _ _ u.2 in
+    let k = take_is keyword s a v.0 (subst (λ z. takes keyword (next_tok s z) ≡ Ok v.0) (sym o.1) v.1) in
     let b = (next_tok s a).after in
     let w = unbind (words (next_tok s v.0)) _ _ v.2 in
     let y = unbind (term_at 64 s cap (next_tok s v.0).after 0 [] 0) _ _ w.2 in
     let f = sound 64 s cap _ _ _ _ _ _ y.1 in
-    let c = unbind (closes (next_tok s y.0.0)) _ _ y.2 in
+    let c = unbind (takes closing (next_tok s y.0.0)) _ _ y.2 in
     let z = unbind (ends (next_tok s c.0)) _ _ c.2 in
     let q : outlined w.0 (next_tok s v.0).place y.0.1 ≡ x = same _ x z.2 in
     let t = f.tree in
-    let close = spelt_append s (spell t) (closing ∷ []) _ _ c.0 f.spelt (close_is s y.0.0 c.0 c.1) in
+    let close = spelt_append s (spell t) (closing ∷ []) _ _ c.0 f.spelt (take_is closing s y.0.0 c.0 c.1) in
     let named : Stands s (word x.name) v.0 = word_is s v.0 w.0 w.1 ∙ ap (λ z. token (word z.name)) q in
     record {
       tree = t;
@@ -94,26 +81,21 @@ plan_of_text s cap name t w good few fits =
     let c = (next_tok s x.0).after in
     let last : (next_tok s c).what ≡ ending = ap (λ z. (next_tok s z).what) x.2.1 ∙ w.last in (
       n.place,
-      chain _ (open_of s 0 sp.0)
-          (chain _ (key_of s a sp.1.0)
+      chain _ (take_of opening s 0 sp.0)
+          (chain _ (take_of keyword s a sp.1.0)
           (chain _ (word_of s name b sp.1.1.0)
           (chain _ (complete t 64 s cap n.after 0 [] 0 x.0 (omega arith) x.1 good (omega arith) (omega arith))
-          (chain _ (close_of s x.0 x.2.0)
+          (chain _ (take_of closing s x.0 x.2.0)
           (chain (λ z. Ok (outlined name n.place (flatten [] 0 t))) (ap (λ z. ends_by z (next_tok s c).place) last) refl))))),
     )
 
 -- the whole text, with its limit
 
-take_front : (xs ys : List Record) → take (length xs) (xs ++ ys) ≡ xs
-take_front [] ys = refl
-take_front (x ∷ xs) ys = ap (λ z. x ∷ z) (take_front xs ys)
+limited : (s : List ℕ) (plan : Result Outline (Located TextFault)) (x : Outline) → cond (leb (length s) 16384) plan (Err (fault_at TooLong 0)) ≡ Ok x → (length s ≤ 16384) × (plan ≡ Ok x)
+limited s plan x e = grind arith
 
 within : (s : List ℕ) (cap : ℕ) (x : Outline) → read_plan s cap ≡ Ok x → (length s ≤ 16384) × (plan_at s cap ≡ Ok x)
-within s cap x e = pick (leb (length s) 16384) refl e
-  where
-    pick : (b : Bool) → leb (length s) 16384 ≡ b → cond b (plan_at s cap) (Err (fault_at TooLong 0)) ≡ Ok x → (length s ≤ 16384) × (plan_at s cap ≡ Ok x)
-    pick true i e = (leb-true (length s) 16384 i, e)
-    pick false i e = absurd (ok_err (sym e))
+within s cap x e = limited s (plan_at s cap) x e
 
 read_of : (s : List ℕ) (cap : ℕ) (name : List ℕ) (t : Tree) → Readable s cap name t → (p : ℕ) × (read_plan s cap ≡ Ok (outlined name p (flatten [] 0 t)))
 read_of s cap name t h =
@@ -123,7 +105,7 @@ read_of s cap name t h =
 module _ (text : Bor (List ℕ)) (cap : ℕ) (ys : List Record) where
   -- the records that count are those read
   front_is : (x : Outline) (plan : Plan) → Told (Ok x) text cap (Ok plan) ys → take plan.count ys ≡ x.rows
-  front_is x plan h = ap (λ z. take z ys) h.0.all ∙ ap (take (length x.rows)) h.1 ∙ take_front x.rows _
+  front_is x plan h = ap (λ z. take z ys) h.0.all ∙ ap (take (length x.rows)) h.1 ∙ take-append_seam x.rows _
 
   pub spells : (o : Result Outline (Located TextFault)) (r : Result Plan (Located TextFault)) → read_plan text.now cap ≡ o → Told o text cap r ys → Spells text cap r ys
   spells (Ok x) (Ok plan) e h =

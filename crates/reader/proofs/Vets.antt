@@ -1,6 +1,7 @@
 -- A good tree's records pass vetting.
-use Rattle.std.proofs.Common.{◌≡◌, ℕ, suc, ◌+◌, ◌<◌, ◌≤◌, Bool, true, false, cond, ◌&&◌, ltb, leb, ◌⊎◌, List, [], ◌∷◌, ◌++◌, length, Some, None, Ok, Option, Result, unwrap_or, refl, ap, ◌∙◌, subst, inl, inr, ⊎_elim, arith}
+use Rattle.std.proofs.Common.{◌≡◌, ℕ, suc, ◌+◌, ◌<◌, ◌≤◌, Bool, true, false, cond, ◌&&◌, ltb, leb, ◌⊎◌, List, [], ◌∷◌, length, Some, None, Ok, Option, Result, unwrap_or, refl, ap, ◌∙◌, subst, inl, inr, ⊎_elim, arith}
 use Rattle.std.proofs.lemmas.Bool.{and_from, lt-ltb, le-leb, eq-eqb, cases_lt, false≢true}
+use Rattle.std.proofs.lemmas.List.Folds.{list_all-append}
 use Rattle.std.specs.Option.{option_map}
 use Rattle.std.specs.Str.{bytes_eq}
 use Rattle.formtable.specs.declared.record.Form.{Form}
@@ -41,14 +42,6 @@ known w m e = by (place_of w) refl e
     by None i e = absurd (none_some e)
     by (Some k) i e = let q = some_inj e in let l : k < 24 = within (λ x. bytes_eq x w) names k i in (omega arith, omega arith)
 
-allowed_append : (xs ys : List Record) → all_allowed xs ≡ true → all_allowed ys ≡ true → all_allowed (xs ++ ys) ≡ true
-allowed_append [] ys h k = k
-allowed_append (x ∷ xs) ys h k = let b = and_parts' (allowed x) (all_allowed xs) h in and_from (allowed x) (all_allowed (xs ++ ys)) b.0 (allowed_append xs ys b.1 k)
-  where
-    and_parts' : (x y : Bool) → (x && y) ≡ true → (x ≡ true) × (y ≡ true)
-    and_parts' true y e = (refl, e)
-    and_parts' false y e = absurd (false≢true e)
-
 pub kinds_good : (env : List Bound) (g p : ℕ) (t : Tree) → Good env g p t → all_allowed (flatten env p t) ≡ true
 kinds_good env g p stop good = refl
 kinds_good env g p (act w t) good =
@@ -58,14 +51,14 @@ kinds_good env g p (act w t) good =
     let e : unwrap_or (motion_of w) 0 ≡ m = ap (λ z. unwrap_or z 0) named in
     and_from (allowed (row 1 (unwrap_or (motion_of w) 0))) _ (ap (λ z. allowed (row 1 z)) e ∙ and_from (ltb 0 m) (leb m 24) (lt-ltb 0 m k.0) (le-leb m 24 k.1)) (kinds_good env p (p + 1) t good.1)
 kinds_good env g p (tau t) good = kinds_good env g (p + 1) t good
-kinds_good env g p (or l r) good = allowed_append (flatten env (p + 1) l) _ (kinds_good env g (p + 1) l good.0) (kinds_good env g (p + 1 + size l) r good.1)
+kinds_good env g p (or l r) good = list_all-append allowed (flatten env (p + 1) l) _ ∙ and_from (all_allowed (flatten env (p + 1) l)) _ (kinds_good env g (p + 1) l good.0) (kinds_good env g (p + 1 + size l) r good.1)
 kinds_good env g p (loop x t) good = kinds_good (binds x p ∷ env) g (p + 1) t good
 kinds_good env g p (again x) good = refl
 
 -- goes
 
 -- the form at k, which comes before p, is of this sort and goes on to e at least
-abbrev Over : List Record → (Form → Bool) → ℕ → ℕ → ℕ → Type 0
+abbrev Over : List Record → (Option Form → Bool) → ℕ → ℕ → ℕ → Type 0
 Over xs is k p e = (is (form_at xs k) ≡ true) × (k < p) × ((z : ℕ) × (past_of xs k ≡ Some z) × (e ≤ z))
 
 abbrev Recs : List Record → ℕ → ℕ → List Bound → Type 0
@@ -75,7 +68,7 @@ Recs xs p e (b ∷ bs) = Over xs is_rec b.place p e × Recs xs p e bs
 abbrev Dos : List Record → ℕ → ℕ → ℕ → Type 0
 Dos xs p e g = (g ≡ 0) ⊎ Over xs is_do g p e
 
-over_in : (xs : List Record) (is : Form → Bool) (k p e p' e' : ℕ) → p ≤ p' → e' ≤ e → Over xs is k p e → Over xs is k p' e'
+over_in : (xs : List Record) (is : Option Form → Bool) (k p e p' e' : ℕ) → p ≤ p' → e' ≤ e → Over xs is k p e → Over xs is k p' e'
 over_in xs is k p e p' e' h l o = (o.0, omega (arith, o.1), (o.2.0, o.2.1, omega (arith, o.2.2)))
 
 recs_in : (xs : List Record) (p e p' e' : ℕ) (env : List Bound) → p ≤ p' → e' ≤ e → Recs xs p e env → Recs xs p' e' env
@@ -93,14 +86,14 @@ found xs p e (b ∷ bs) w k r l = pick (bytes_eq b.name w) l (found xs p e bs w 
     pick true i f = subst (λ z. Over xs is_rec z p e) (some_inj i) r.0
     pick false i f = f i
 
-over_reaches : (xs : List Record) (is : Form → Bool) (k p e j : ℕ) → Over xs is k p e → j < e → reaches j (past_of xs k) ≡ true
+over_reaches : (xs : List Record) (is : Option Form → Bool) (k p e j : ℕ) → Over xs is k p e → j < e → reaches j (past_of xs k) ≡ true
 over_reaches xs is k p e j o h = ap (reaches j) o.2.1 ∙ lt-ltb j o.2.0 (omega (arith, o.2.2))
 
 -- if a go stands at j, it is bound and guarded
 abbrev pub Fine : List Record → ℕ → Type 0
 Fine xs j = (bound_by xs j (form_at xs j) ≡ true) × (guarded_by xs j (form_at xs j) ≡ true)
 
-fine_by : (xs : List Record) (j : ℕ) (f : Form) → form_at xs j ≡ f → bound_by xs j f ≡ true → guarded_by xs j f ≡ true → Fine xs j
+fine_by : (xs : List Record) (j : ℕ) (f : Option Form) → form_at xs j ≡ f → bound_by xs j f ≡ true → guarded_by xs j f ≡ true → Fine xs j
 fine_by xs j f i b g = (ap (bound_by xs j) i ∙ b, ap (guarded_by xs j) i ∙ g)
 
 here_or : (xs : List Record) (p j : ℕ) → p ≤ j → Fine xs p → (p + 1 ≤ j → Fine xs j) → Fine xs j
@@ -129,7 +122,7 @@ fine xs env g p (loop x t) h good r d j l m =
     (λ k. fine xs (binds x p ∷ env) g (p + 1) t (next xs p _ _ h) good ((ap is_rec i, omega arith, (_, past xs env p (loop x t) h, omega arith)), recs_in xs p _ _ _ env (omega arith) (omega arith) r) (dos_in xs p _ _ _ g (omega arith) (omega arith) d) j k (omega arith))
 fine xs env g p (again x) h good r d j l m =
     let k = good.0 in
-    let i : form_at xs p ≡ Go k = first xs p _ [] h ∙ ap (λ z. Go (unwrap_or z 0)) good.1 in
+    let i : form_at xs p ≡ Some (Go k) = first xs p _ [] h ∙ ap (λ z. Some (Go (unwrap_or z 0))) good.1 in
     let o = found xs p _ env x k r good.1 in
     here_or xs p j l
     (⊎_elim (λ z. absurd (omega (arith, good.2)))

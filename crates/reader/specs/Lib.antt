@@ -1,6 +1,5 @@
 pub mod Tokens
 pub mod Reading
-pub mod Starts
 pub mod Plans
 pub mod Promises
 pub mod Brackets

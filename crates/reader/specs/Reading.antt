@@ -1,20 +1,20 @@
 -- What the text of a plan reads as.
-use Rattle.std.specs.Prelude.{◌≡◌, ℕ, zero, suc, ◌+◌, ◌-◌, ◌<◌, ◌≤◌, Bool, true, false, cond, List, [], ◌∷◌, ◌++◌, length, drop, replicate, Some, None, Ok, Err, codes, Option, Result, nat_le, nat_lt, slice_index_or, slice_set}
+use Rattle.std.specs.Prelude.{◌≡◌, ℕ, zero, suc, ◌+◌, ◌-◌, ◌<◌, ◌≤◌, cond, List, [], ◌∷◌, ◌++◌, length, drop, replicate, Some, None, Ok, Err, codes, Option, Result, nat_le, nat_lt, slice_set}
 use Rattle.std.specs.Borrow.{Bor}
 use Rattle.std.specs.Str.{bytes_eq}
 use Rattle.common.specs.declared.fault.Located.{Located}
+use Rattle.lexer.specs.Lex.{opening, closing, word}
 use Rattle.lexer.specs.declared.fault.TextFault.{TextFault}
 use Rattle.lexer.specs.declared.fault.TextFault.TheVariants.{TooLong, Unexpected, NoMotion, NotBound, NotGuarded, TooManyForms, ListShort}
 use Rattle.motions.specs.Naming.{motion_of}
 use Rattle.formtable.specs.declared.record.Record.{Record}
 use Rattle.formtable.specs.Kinds.{row}
-use Rattle.reader.specs.declared.heads.Progress.{Progress}
 use Rattle.reader.specs.declared.heads.Shape.{Shape}
 use Rattle.reader.specs.declared.heads.Shape.TheVariants.{End, Do, Tau, Or, Rec, Go}
 use Rattle.reader.specs.declared.reading.Plan.{Plan}
-use Rattle.reader.specs.declared.scope.Binding.{Binding}
+use Rattle.reader.specs.declared.scope.Binding.{Binding, Binding', Held-Binding-outer, None', Some'}
 use Rattle.reader.specs.declared.scope.Scope.{Scope}
-use Rattle.reader.specs.Tokens.{fault_at, bind, Spot, next_tok, opens, closes, words, ends, letters_at, PartFrom}
+use Rattle.reader.specs.Tokens.{fault_at, bind, Spot, next_tok, takes, words, ends, PartFrom}
 
 -- the form that a form word opens
 abbrev pub shape_of : List ℕ → Option Shape
@@ -41,7 +41,7 @@ form_word s cap p at = bind (words (next_tok s at)) (λ w. form_by cap p (next_t
 
 -- the opening bracket and the form word of the form whose record is the one at p
 abbrev pub head_at : List ℕ → ℕ → ℕ → ℕ → Result (Shape × ℕ) (Located TextFault)
-head_at s cap at p = bind (opens (next_tok s at)) (form_word s cap p)
+head_at s cap at p = bind (takes opening (next_tok s at)) (form_word s cap p)
 
 abbrev pub motion_by : Spot → Option ℕ → Result (ℕ × ℕ) (Located TextFault)
 motion_by t None = Err (fault_at NoMotion t.place)
@@ -82,7 +82,7 @@ Outcome = Result (ℕ × List Record) (Located TextFault)
 
 -- the closing bracket after a form with these records
 abbrev pub shut : List ℕ → ℕ → List Record → Outcome
-shut s at ns = bind (closes (next_tok s at)) (λ a. Ok (a, ns))
+shut s at ns = bind (takes closing (next_tok s at)) (λ a. Ok (a, ns))
 
 -- what follows the form word of the form at p, by what its inner forms read as
 abbrev pub body : List ℕ → (ℕ → ℕ → List Bound → ℕ → Outcome) → ℕ → List Bound → ℕ → ℕ → Shape → Outcome
@@ -108,42 +108,32 @@ abbrev pub term_at : ℕ → List ℕ → ℕ → ℕ → ℕ → List Bound →
 term_at zero s cap at p env g = step s cap (λ a q e h. Err (fault_at TooManyForms a)) at p env g
 term_at (suc n) s cap at p env g = step s cap (term_at n s cap) at p env g
 
--- the code's scope as the list of the recs around, each name read where it stands in the text
-abbrev pub no_binding : Binding
-no_binding = record { name = 0; rec = 0 }
+-- the recs from a binding outwards
+abbrev mutual
+  pub recs_from : Binding → List Bound
+  recs_from (Binding' name rec outer) = binds name.now rec ∷ recs_behind outer
 
-abbrev pub env_of : List ℕ → List Binding → ℕ → List Bound
-env_of s names zero = []
-env_of s names (suc d) =
-    binds (letters_at s (slice_index_or names d no_binding).name) (slice_index_or names d no_binding).rec ∷ env_of s names d
+  pub recs_behind : Held-Binding-outer → List Bound
+  recs_behind None' = []
+  recs_behind (Some' p binding) = recs_from binding
 
-abbrev pub around : List ℕ → Scope → List Bound
-around s scope = env_of s scope.bound scope.depth
+abbrev pub recs_at : Option (Bor Binding) → List Bound
+recs_at None = []
+recs_at (Some binding) = recs_from binding.now
 
-abbrev pub reached_at : ℕ → ℕ → Progress
-reached_at a n = record { at = a; count = n }
-
--- a closing bracket after some forms
-abbrev pub past_close : List ℕ → Progress → Result Progress (Located TextFault)
-past_close s from = bind (closes (next_tok s from.at)) (λ a. Ok (reached_at a from.count))
+-- the recs of a scope
+abbrev pub around : Scope → List Bound
+around scope = recs_at scope.inner
 
 -- xs with ns written from p on
 abbrev pub put : List Record → ℕ → List Record → List Record
 put xs p [] = xs
 put xs p (n ∷ ns) = put (slice_set xs p n) (p + 1) ns
 
--- what a call that should come to o leaves: its answer r, and ys in the place of xs
-abbrev pub Reads : Outcome → ℕ → List Record → Result Progress (Located TextFault) → List Record → Type 0
-Reads (Ok x) p xs r ys = (r ≡ Ok (reached_at x.0 (p + length x.1))) × (ys ≡ put xs p x.1)
-Reads (Err f) p xs r ys = r ≡ Err f
-
-abbrev pub key_by : Spot → Bool → Result ℕ (Located TextFault)
-key_by t true = Ok t.after
-key_by t false = Err (fault_at Unexpected t.place)
-
--- the word plan: the place after it
-abbrev pub key_at : List ℕ → ℕ → Result ℕ (Located TextFault)
-key_at s at = bind (words (next_tok s at)) (λ w. key_by (next_tok s at) (bytes_eq w (codes "plan")))
+-- what a call that should come to o leaves: its answer r, the cursor at a place, and ys in the place of xs
+abbrev pub Reads : Outcome → ℕ → List Record → Result ℕ (Located TextFault) → ℕ → List Record → Type 0
+Reads (Ok x) p xs r at ys = (r ≡ Ok (p + length x.1)) × (at ≡ x.0) × (ys ≡ put xs p x.1)
+Reads (Err f) p xs r at ys = r ≡ Err f
 
 -- the plan of a text: its name, where that stands, and its records
 pub record Outline : Type 0 where
@@ -157,11 +147,11 @@ outlined w p ns = record { name = w; start = p; rows = ns }
 -- (plan NAME TERM), and nothing after it
 abbrev pub plan_at : List ℕ → ℕ → Result Outline (Located TextFault)
 plan_at s cap =
-    bind (opens (next_tok s 0))
-    (λ a. bind (key_at s a)
+    bind (takes opening (next_tok s 0))
+    (λ a. bind (takes (word (codes "plan")) (next_tok s a))
     (λ b. bind (words (next_tok s b))
     (λ w. bind (term_at 64 s cap (next_tok s b).after 0 [] 0)
-    (λ t. bind (closes (next_tok s t.0))
+    (λ t. bind (takes closing (next_tok s t.0))
     (λ e. bind (ends (next_tok s e)) (λ z. Ok (outlined w (next_tok s b).place t.1)))))))
 
 -- a text of at most 16,384 bytes is read, into a list of cap records

@@ -1,12 +1,13 @@
 -- What stands next in a text, and what a rule of the grammar asks of it.
-use Rattle.std.specs.Prelude.{◌≡◌, ℕ, ◌+◌, List, [], length, drop, Ok, Err, Result, ◌≢◌}
+use Rattle.std.specs.Prelude.{◌≡◌, ℕ, ◌+◌, Bool, true, false, cond, List, length, drop, Ok, Err, Result, ◌≢◌}
 use Rattle.std.specs.Borrow.{Bor}
+use Rattle.std.specs.Str.{bytes_eq}
 use Rattle.common.specs.declared.fault.Located.{Located}
 use Rattle.lexer.specs.declared.fault.TextFault.{TextFault}
 use Rattle.lexer.specs.declared.fault.TextFault.TheVariants.{BadToken, Unexpected}
 use Rattle.lexer.specs.declared.token.Placed.{Placed}
+use Rattle.lexer.specs.declared.token.Token.{Token}
 use Rattle.lexer.specs.Lex.{Tok, opening, closing, word, Step, ended, read, fault, tok_of, lex, PartAt}
-use Rattle.reader.specs.declared.words.WordAt.{WordAt}
 
 -- a fault at a place
 abbrev pub fault_at : TextFault → ℕ → Located TextFault
@@ -48,19 +49,17 @@ stray (token t) p = fault_at Unexpected p
 stray ending p = fault_at Unexpected p
 stray bad p = fault_at BadToken p
 
-abbrev pub opens_by : Next → ℕ → ℕ → Result ℕ (Located TextFault)
-opens_by (token opening) p a = Ok a
-opens_by (token closing) p a = Err (fault_at Unexpected p)
-opens_by (token (word w)) p a = Err (fault_at Unexpected p)
-opens_by ending p a = Err (fault_at Unexpected p)
-opens_by bad p a = Err (fault_at BadToken p)
+-- are two tokens the same
+abbrev pub same_tok : Tok → Tok → Bool
+same_tok opening opening = true
+same_tok closing closing = true
+same_tok (word v) (word w) = bytes_eq v w
+same_tok _ _ = false
 
-abbrev pub closes_by : Next → ℕ → ℕ → Result ℕ (Located TextFault)
-closes_by (token opening) p a = Err (fault_at Unexpected p)
-closes_by (token closing) p a = Ok a
-closes_by (token (word w)) p a = Err (fault_at Unexpected p)
-closes_by ending p a = Err (fault_at Unexpected p)
-closes_by bad p a = Err (fault_at BadToken p)
+abbrev pub takes_by : Tok → Next → ℕ → ℕ → Result ℕ (Located TextFault)
+takes_by t (token u) p a = cond (same_tok u t) (Ok a) (Err (fault_at Unexpected p))
+takes_by t ending p a = Err (fault_at Unexpected p)
+takes_by t bad p a = Err (fault_at BadToken p)
 
 abbrev pub words_by : Next → ℕ → Result (List ℕ) (Located TextFault)
 words_by (token opening) p = Err (fault_at Unexpected p)
@@ -74,13 +73,9 @@ ends_by (token t) p = Err (fault_at Unexpected p)
 ends_by ending p = Ok tt
 ends_by bad p = Err (fault_at BadToken p)
 
--- an opening bracket: the place after it
-abbrev pub opens : Spot → Result ℕ (Located TextFault)
-opens t = opens_by t.what t.place t.after
-
--- a closing bracket: the place after it
-abbrev pub closes : Spot → Result ℕ (Located TextFault)
-closes t = closes_by t.what t.place t.after
+-- the token t: the place after it
+abbrev pub takes : Tok → Spot → Result ℕ (Located TextFault)
+takes t k = takes_by t k.what k.place k.after
 
 -- a word: its letters
 abbrev pub words : Spot → Result (List ℕ) (Located TextFault)
@@ -90,21 +85,20 @@ words t = words_by t.what t.place
 abbrev pub ends : Spot → Result (Unit {0}) (Located TextFault)
 ends t = ends_by t.what t.place
 
--- the letters of a word, and none of anything else
-abbrev pub letters_by : Next → List ℕ
-letters_by (token opening) = []
-letters_by (token closing) = []
-letters_by (token (word w)) = w
-letters_by ending = []
-letters_by bad = []
+-- an answer with the place that the cursor reached
+abbrev pub reached : {A : Type 0} → Result A (Located TextFault) → ℕ → Result (A × ℕ) (Located TextFault)
+reached (Ok x) at = Ok (x, at)
+reached (Err f) at = Err f
 
-abbrev pub letters_at : List ℕ → ℕ → List ℕ
-letters_at s at = letters_by (next_tok s at).what
+-- that place alone
+abbrev pub passed : Result (Unit {0}) (Located TextFault) → ℕ → Result ℕ (Located TextFault)
+passed (Ok x) at = Ok at
+passed (Err f) at = Err f
 
 -- the token that was read, its word that very part of the text
-pub record TokenIs (text : Bor (List ℕ)) (at : ℕ) (t : Placed) : Type 0 where
-  pub is : next_tok text.now at ≡ spot_at (token (tok_of t.token)) t.place t.next
-  pub part : PartAt text t.place t.token
+pub record TokenIs (text : Bor (List ℕ)) (at : ℕ) (t : Placed Token) : Type 0 where
+  pub is : next_tok text.now at ≡ spot_at (token (tok_of t.what)) t.place t.next
+  pub part : PartAt text t.place t.what
 
 -- no token stands next, and this is the fault
 pub record NoToken (s : List ℕ) (at : ℕ) (f : Located TextFault) : Type 0 where
@@ -117,8 +111,8 @@ pub record PartFrom (text : Bor (List ℕ)) (place : ℕ) (part : Bor (List ℕ)
   pub offset : part.ref_ptr.1 ≡ place + text.ref_ptr.1
 
 -- the word that was read, as that very part of the text
-pub record WordIs (text : Bor (List ℕ)) (at : ℕ) (w : WordAt) : Type 0 where
-  pub is : words (next_tok text.now at) ≡ Ok w.letters.now
+pub record WordIs (text : Bor (List ℕ)) (at : ℕ) (w : Placed (Bor (List ℕ))) : Type 0 where
+  pub is : words (next_tok text.now at) ≡ Ok w.what.now
   pub from : w.place ≡ (next_tok text.now at).place
   pub to : w.next ≡ (next_tok text.now at).after
-  pub part : PartFrom text w.place w.letters
+  pub part : PartFrom text w.place w.what

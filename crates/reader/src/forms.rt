@@ -1,62 +1,87 @@
 // One form of a plan, and the forms inside it.
-ghost use Rattle.std.specs.Prelude.{◌≡◌, ℕ, ◌+◌, ◌<◌, ◌≤◌, length, IfOk};
-ghost use Rattle.reader.specs.Reading.{around, past_close, term_at, Reads};
+ghost use Rattle.std.specs.Prelude.{◌≡◌, ℕ, ◌+◌, ◌<◌, ◌≤◌, length, IfOk, Ok, Err, MatchResult};
+ghost use Rattle.lexer.specs.Lex.{closing};
+ghost use Rattle.reader.specs.Tokens.{next_tok, reached, takes};
+ghost use Rattle.reader.specs.Reading.{motion_at, go_target_at, around, term_at, Reads};
 
-use crate::heads::{Progress, head};
+use crate::cursor::Cursor;
+use crate::heads::{Shape, head};
 use crate::scope::Scope;
-use crate::starts::{Inner, first_words};
-use crate::words::close;
 use common::Located;
-use formtable::Record;
-use lexer::TextFault;
+use formtable::{Form, Record};
+use lexer::{TextFault, Token};
+use motions::motion_of;
 
-// The closing bracket of a form, whose inner forms end here.
-fn shut(text: &[u8], past: Progress) -> Result<Progress, Located<TextFault>>
-    ensures is { result ≡ past_close text.now past }
-    ensures same { IfOk result (λ x. x.count ≡ past.count) }
+// The motion of a do.
+fn motion(cursor: &mut Cursor) -> Result<u16, Located<TextFault>>
+    ensures text { cursor.new.text ≡ cursor.old.text }
+    ensures is { reached result cursor.new.at ≡ motion_at cursor.old.text.now cursor.old.at }
 {
-    let end = close(text, past.at)?;
-    Ok(Progress {
-        at: end,
-        count: past.count,
-    })
+    let w = cursor.word()?;
+    motion_of(w.what)
+        .map(u16::from)
+        .ok_or(Located::at(TextFault::NoMotion, w.place))
 }
 
-// Reads the form at a place; its record is the one at `count`, those of its inner forms follow.
+// The place of the rec that a go names.
+fn target(cursor: &mut Cursor, scope: Scope) -> Result<usize, Located<TextFault>>
+    ensures text { cursor.new.text ≡ cursor.old.text }
+    ensures is { reached result cursor.new.at ≡ go_target_at cursor.old.text.now (around scope.entry) scope.entry.guard cursor.old.at }
+    ensures below { IfOk result (λ place. place < scope.entry.guard) }
+{
+    let w = cursor.word()?;
+    let place = scope
+        .find(w.what)
+        .ok_or(Located::at(TextFault::NotBound, w.place))?;
+    if place < scope.guard {
+        Ok(place)
+    } else {
+        Err(Located::at(TextFault::NotGuarded, w.place))
+    }
+}
+
+// The closing bracket of a form, whose inner forms' records end at `end`.
+fn shut(cursor: &mut Cursor, end: usize) -> Result<usize, Located<TextFault>>
+    ensures text { cursor.new.text ≡ cursor.old.text }
+    ensures is { MatchResult result (λ x. (x ≡ end) × (Ok cursor.new.at ≡ takes closing (next_tok cursor.old.text.now cursor.old.at))) (λ f. Err f ≡ takes closing (next_tok cursor.old.text.now cursor.old.at)) }
+{
+    cursor.take(Token::Close)?;
+    Ok(end)
+}
+
+// Reads the form whose record is the one at `place`; those of its inner forms follow. The place after them.
 pub(crate) fn form(
-    text: &[u8],
-    from: Progress,
+    cursor: &mut Cursor,
+    place: usize,
     records: &mut [Record],
     scope: Scope,
-) -> Result<Progress, Located<TextFault>>
-    requires few { from.count ≤ 64 }
-    requires deep { scope.depth ≤ from.count }
-    requires near { scope.guard ≤ from.count }
-    ensures within { IfOk result (λ x. (from.count < x.count) × (x.count ≤ 64) × (x.count ≤ length records.old)) }
-    ensures reads { (n : ℕ) → 64 ≤ n + from.count → Reads (term_at n text.now (length records.old) from.at from.count (around text.now scope) scope.guard) from.count records.old result records.new }
+) -> Result<usize, Located<TextFault>>
+    requires few { place ≤ 64 }
+    requires near { scope.guard ≤ place }
+    ensures text { cursor.new.text ≡ cursor.old.text }
+    ensures within { IfOk result (λ end. (place < end) × (end ≤ 64) × (end ≤ length records.old)) }
+    ensures reads { (n : ℕ) → 64 ≤ n + place → Reads (term_at n cursor.old.text.now (length records.old) cursor.old.at place (around scope.entry) scope.entry.guard) place records.old result cursor.new.at records.new }
 {
-    let count = from.count;
-    let (shape, next) = head(text, from, records.len())?;
-    let begun = first_words(text, next, count, shape, scope)?;
-    let first = Progress {
-        at: begun.at,
-        count: count + 1,
+    let shape = head(cursor, place, records.len())?;
+    let first = place + 1;
+    let (said, end) = match shape {
+        Shape::End => (Form::End, first),
+        Shape::Do => (
+            Form::Do(motion(cursor)?),
+            form(cursor, first, records, scope.guarded(place))?,
+        ),
+        Shape::Tau => (Form::Tau, form(cursor, first, records, scope)?),
+        Shape::Or => {
+            let right = form(cursor, first, records, scope)?;
+            (Form::Or(right as u16), form(cursor, right, records, scope)?)
+        }
+        Shape::Rec => {
+            let name = cursor.word()?;
+            let rec = scope.binding(name.what, place);
+            (Form::Rec, form(cursor, first, records, scope.inside(&rec))?)
+        }
+        Shape::Go => (Form::Go(target(cursor, scope)? as u16), first),
     };
-    records[count] = begun.line;
-    match begun.inner {
-        Inner::Nothing => shut(text, first),
-        Inner::One(inside) => {
-            let past = form(text, first, records, inside)?;
-            shut(text, past)
-        }
-        Inner::Two => {
-            let right = form(text, first, records, scope)?;
-            records[count] = Record {
-                kind: 3,
-                argument: right.count as u16,
-            };
-            let end = form(text, right, records, scope)?;
-            shut(text, end)
-        }
-    }
+    records[place] = Record::from(said);
+    shut(cursor, end)
 }

@@ -1,21 +1,16 @@
 // The opening bracket and the form word of a form.
 ghost use Rattle.std.specs.Prelude.{◌≡◌, ◌<◌, OnOk};
+ghost use Rattle.reader.specs.Tokens.{reached};
 ghost use Rattle.reader.specs.Reading.{shape_of, head_at};
 
-use crate::scope::MAX_FORMS;
-use crate::words::{open, same, word};
+use crate::cursor::Cursor;
 use common::Located;
-use lexer::TextFault;
-
-// How far the reading is: the place in the text, and how many records are written.
-#[derive(Clone, Copy)]
-pub struct Progress {
-    pub at: usize,
-    pub count: usize,
-}
+use formtable::record::RECORDS;
+use lexer::{TextFault, Token};
 
 // The form that a form word opens.
-#[derive(Clone, Copy)]
+// Kept: a form word says no argument, and a Form that has one could only make it up.
+#[derive(Clone, Copy, Debug, PartialEq, Eq)]
 pub enum Shape {
     End,
     Do,
@@ -28,42 +23,35 @@ pub enum Shape {
 fn shape_of(w: &[u8]) -> Option<Shape>
     ensures { result ≡ shape_of w.now }
 {
-    if same(w, b"end") {
-        Some(Shape::End)
-    } else if same(w, b"do") {
-        Some(Shape::Do)
-    } else if same(w, b"tau") {
-        Some(Shape::Tau)
-    } else if same(w, b"or") {
-        Some(Shape::Or)
-    } else if same(w, b"rec") {
-        Some(Shape::Rec)
-    } else if same(w, b"go") {
-        Some(Shape::Go)
-    } else {
-        None
+    match w {
+        b"end" => Some(Shape::End),
+        b"do" => Some(Shape::Do),
+        b"tau" => Some(Shape::Tau),
+        b"or" => Some(Shape::Or),
+        b"rec" => Some(Shape::Rec),
+        b"go" => Some(Shape::Go),
+        _ => None,
     }
 }
 
-// The opening bracket and the form word of the form whose record is the one at `count`, with room for `room` records.
+// The opening bracket and the form word of the form at `place`, with room for `room` records.
 pub(crate) fn head(
-    text: &[u8],
-    from: Progress,
+    cursor: &mut Cursor,
+    place: usize,
     room: usize,
-) -> Result<(Shape, usize), Located<TextFault>>
-    ensures is { result ≡ head_at text.now room from.at from.count }
-    ensures within { OnOk result ((from.count < 64) × (from.count < room)) }
+) -> Result<Shape, Located<TextFault>>
+    ensures text { cursor.new.text ≡ cursor.old.text }
+    ensures is { reached result cursor.new.at ≡ head_at cursor.old.text.now room cursor.old.at place }
+    ensures within { OnOk result ((place < 64) × (place < room)) }
 {
-    let bracket = open(text, from.at)?;
-    let w = word(text, bracket)?;
-    let Some(shape) = shape_of(w.letters) else {
-        return Err(Located::at(TextFault::Unexpected, w.place));
-    };
-    if from.count >= MAX_FORMS {
+    cursor.take(Token::Open)?;
+    let w = cursor.word()?;
+    let shape = shape_of(w.what).ok_or(Located::at(TextFault::Unexpected, w.place))?;
+    if place >= RECORDS {
         return Err(Located::at(TextFault::TooManyForms, w.place));
     }
-    if from.count >= room {
+    if place >= room {
         return Err(Located::at(TextFault::ListShort, w.place));
     }
-    Ok((shape, w.next))
+    Ok(shape)
 }

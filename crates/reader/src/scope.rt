@@ -1,75 +1,74 @@
 // What stands around a form: the names that are bound there, and the nearest do.
-ghost use Rattle.std.specs.Prelude.{◌≡◌, ℕ, ◌+◌, ◌<◌, ◌≤◌, List, [], ◌∷◌};
-ghost use Rattle.reader.specs.Tokens.{letters_at};
-ghost use Rattle.reader.specs.Reading.{around, binds, lookup};
+ghost use Rattle.std.specs.Prelude.{◌≡◌, ◌∷◌};
+ghost use Rattle.reader.specs.Reading.{around, binds, lookup, recs_from};
 
-use crate::words::{letters_at, same};
-
-// How many forms a plan may have, and so how many names may be bound at one place.
-pub(crate) const MAX_FORMS: usize = 64;
-
-// A bound name: from where in the text it is read, and the place of its rec.
+// A rec around a form: the name that it binds, its place, and the next rec around it.
 #[derive(Clone, Copy)]
-pub struct Binding {
-    pub name: usize,
+pub struct Binding<'a> {
+    pub name: &'a [u8],
     pub rec: usize,
+    pub outer: Option<&'a Binding<'a>>,
 }
 
-// The recs around a form, the outermost first, and the place of the innermost do around it, 0 where there is none.
+// The innermost rec around a form, and the place of the innermost do around it, 0 where there is none.
+// Kept: no rec lies before place 0, so with 0 for none the test of a go is one comparison.
 #[derive(Clone, Copy)]
-pub struct Scope {
-    pub bound: [Binding; 64],
-    pub depth: usize,
+pub struct Scope<'a> {
+    pub inner: Option<&'a Binding<'a>>,
     pub guard: usize,
 }
 
-impl Scope {
+impl<'a> Scope<'a> {
     // Nothing stands around the whole term.
-    pub(crate) fn outermost() -> Scope
-        ensures { (result.depth ≡ 0) × (result.guard ≡ 0) }
+    pub(crate) const OUTERMOST: Scope<'static> = Scope {
+        inner: None,
+        guard: 0,
+    };
+
+    // The rec at a place, which binds a name.
+    pub(crate) fn binding(self, name: &'a [u8], rec: usize) -> Binding<'a>
+        ensures { recs_from result ≡ binds name.now rec ∷ around self.entry }
     {
-        Scope {
-            bound: [Binding { name: 0, rec: 0 }; 64],
-            depth: 0,
-            guard: 0,
+        Binding {
+            name,
+            rec,
+            outer: self.inner,
         }
     }
 
-    // Inside a rec that binds a name.
-    pub(crate) fn binding(self, name: usize, rec: usize) -> Scope
-        requires { self.depth < 64 }
-        ensures deeper { (result.depth ≡ self.depth + 1) × (result.guard ≡ self.guard) }
-        ensures names { (s : List ℕ) → around s result ≡ binds (letters_at s name) rec ∷ around s self }
+    // Inside the do at a place.
+    pub(crate) fn guarded(self, place: usize) -> Scope<'a>
+        ensures names { around result ≡ around self.entry }
+        ensures guard { result.guard ≡ place }
     {
-        let mut inner = self;
-        let depth = inner.depth;
-        inner.bound[depth] = Binding { name, rec };
-        inner.depth = depth + 1;
-        inner
+        Scope {
+            guard: place,
+            ..self
+        }
     }
 
-    // Inside the do at a place.
-    pub(crate) fn guarded(self, place: usize) -> Scope
-        ensures deeper { (result.depth ≡ self.depth) × (result.guard ≡ place) }
-        ensures names { (s : List ℕ) → around s result ≡ around s self }
+    // Inside a rec.
+    pub(crate) fn inside(self, rec: &'a Binding<'a>) -> Scope<'a>
+        ensures names { around result ≡ recs_from rec.now }
+        ensures guard { result.guard ≡ self.entry.guard }
     {
-        let mut inner = self;
-        inner.guard = place;
-        inner
+        Scope {
+            inner: Some(rec),
+            ..self
+        }
     }
 
     // The place of the innermost rec around that binds the name.
-    pub(crate) fn find(&self, text: &[u8], name: &[u8]) -> Option<usize>
-        requires { self.now.depth ≤ 64 }
-        ensures { result ≡ lookup (around text.now self.now) name.now }
+    // Kept: nothing says that std's iterator over such links, `successors`, ends, which `find` requires.
+    pub(crate) fn find(self, name: &[u8]) -> Option<usize>
+        ensures { result ≡ lookup (around self.entry) name.now }
     {
-        let mut i = self.depth;
-        while i > 0 {
-            i -= 1;
-            let b = self.bound[i];
-            if same(letters_at(text, b.name), name) {
-                return Some(b.rec);
+        let mut next = self.inner;
+        while let Some(binding) = next {
+            if binding.name == name {
+                return Some(binding.rec);
             }
+            next = binding.outer;
         }
         None
     }

@@ -1,8 +1,11 @@
 -- The bytes of a report can be read in one way only, and so they say what was found.
-use Rattle.std.proofs.Common.{◌≡◌, ℕ, zero, suc, ◌-◌, ◌≤◌, Bool, true, false, ◌&&◌, eqb, leb, List, [], ◌∷◌, ◌++◌, length, get_or, take, drop, replicate, None, Ok, Err, codes, Result, unwrap_or, sym, refl, ap, ◌∙◌, subst, ⊎_elim, arith}
+use Rattle.std.proofs.Common.{◌≡◌, ℕ, ◌-◌, ◌≤◌, true, false, ◌&&◌, eqb, leb, List, [], ◌∷◌, ◌++◌, length, get_or, take, drop, replicate, None, Ok, Err, codes, Result, unwrap_or, sym, refl, ap, ◌∙◌, subst, arith}
 use Rattle.std.specs.List.{slice_get, flat_map}
 use Rattle.std.proofs.lemmas.List.{append_assoc, append_cancel_left, take_at}
-use Rattle.std.proofs.lemmas.Bool.{both_ways, and_parts, ne_eqb, cond-false, cases_Bool, cond-true}
+use Rattle.std.proofs.lemmas.List.Elements.{All-get_or}
+use Rattle.std.proofs.lemmas.List.Sums.{AllPass-from_list_all}
+use Rattle.std.proofs.lemmas.Option.{unwrap_or-slice_get}
+use Rattle.std.proofs.lemmas.Bool.{both_ways, and_parts, ne_eqb, cond-false}
 use Rattle.process.specs.Meaning.{Proc}
 use Rattle.lexer.specs.Bytes.{alnum, word_bytes, is_word}
 use Rattle.lexer.specs.Lex.{Tok, word, Step, ended, read, fault, lex}
@@ -12,11 +15,20 @@ use Rattle.motions.proofs.Distinctness.{names_distinct}
 use Rattle.reader.specs.Plans.{Tree, Stands}
 use Rattle.reader.specs.Promises.{Readable}
 use Rattle.reader.specs.Tokens.{token, spot_of, next_tok}
-use Rattle.report.specs.Exactly.{bytes_of, answer_of, out_after}
+use Rattle.common.specs.Faults.{numbered}
+use Rattle.certificate.specs.declared.Row.{Row}
+use Rattle.formtable.specs.declared.record.Record.{Record}
+use Rattle.writing.specs.Faults.{output_number}
+use Rattle.writing.specs.declared.fault.OutputFault.{OutputFault}
+use Rattle.report.specs.Exactly.{bytes_of}
 use Rattle.report.specs.Finding.{Finding, lies_within, goes_beyond, is_refused}
 use Rattle.report.proofs.Texts.{beyond_grouped}
-use Rattle.report.specs.Lines.{letters, spaced, within_text, beyond_text}
+use Rattle.report.specs.Lines.{letters, spaced, within_text, beyond_text, text_of, WritesAll}
+use Rattle.report.specs.Outcomes.{StandsFor}
 use Rattle.report.specs.Says.{TermWithin, TermBeyond, Writes, AllKnown, Told, Says, Reports}
+use Rattle.report.specs.Sizes.{Sizes}
+use Rattle.report.specs.declared.lines.Found.{Found}
+use Rattle.report.specs.declared.refusal.Refusal.{Refusal}
 
 -- a list that begins with no letter and no digit
 abbrev Breaks : List ℕ → Type 0
@@ -38,25 +50,13 @@ split (x ∷ xs) (y ∷ ys) us vs p q a b e =
 
 -- the names of motions are words, each its own
 
-nth_at : (xs : List (List ℕ)) (i : ℕ) → unwrap_or (slice_get xs i) [] ≡ get_or xs i []
-nth_at [] i = refl
-nth_at (x ∷ xs) zero = refl
-nth_at (x ∷ xs) (suc i) = nth_at xs i
-
 letters_there : (m : ℕ) → 1 ≤ m → letters m ≡ get_or names (m - 1) []
-letters_there m h = ap (λ (o : _). unwrap_or o []) (cond-false (eqb m 0) None (slice_get names (m - 1)) (ne_eqb m 0 (λ e. omega arith))) ∙ nth_at names (m - 1)
+letters_there m h = ap (λ (o : _). unwrap_or o []) (cond-false (eqb m 0) None (slice_get names (m - 1)) (ne_eqb m 0 (λ e. omega arith))) ∙ unwrap_or-slice_get names (m - 1) []
 
-abbrev all_words : List (List ℕ) → Bool
-all_words [] = true
-all_words (w ∷ ws) = word_bytes w && all_words ws
-
-word_at : (ws : List (List ℕ)) (i : ℕ) → all_words ws ≡ true → word_bytes (get_or ws i []) ≡ true
-word_at [] i h = refl
-word_at (w ∷ ws) zero h = (and_parts (word_bytes w) (all_words ws) h).0
-word_at (w ∷ ws) (suc i) h = word_at ws i (and_parts (word_bytes w) (all_words ws) h).1
-
-letters_word : (m : ℕ) → 1 ≤ m → word_bytes (letters m) ≡ true
-letters_word m h = ap word_bytes (letters_there m h) ∙ word_at names (m - 1) refl
+letters_word : (m : ℕ) → 1 ≤ m → m ≤ 24 → word_bytes (letters m) ≡ true
+letters_word m h k =
+    ap word_bytes (letters_there m h)
+    ∙ All-get_or (λ (w : List ℕ). word_bytes w ≡ true) names (m - 1) [] (omega arith) (AllPass-from_list_all word_bytes names refl)
 
 letters_same : (m n : ℕ) → 1 ≤ m → m ≤ 24 → 1 ≤ n → n ≤ 24 → letters m ≡ letters n → m ≡ n
 letters_same m n a b c d e =
@@ -79,7 +79,7 @@ motions_same (m ∷ ms) [] p q e = let z : ◌≡◌ {A = ℕ} 32 41 = ap (λ (l
 motions_same (m ∷ ms) (n ∷ ns) (p0, p1, p2) (q0, q1, q2) e =
     let t : letters m ++ (flat_map spaced ms ++ tail) ≡ letters n ++ (flat_map spaced ns ++ tail) =
     sym (append_assoc (letters m) (flat_map spaced ms) tail) ∙ ap (drop 1) e ∙ append_assoc (letters n) (flat_map spaced ns) tail in
-    let r = split (letters m) (letters n) (flat_map spaced ms ++ tail) (flat_map spaced ns ++ tail) (letters_word m p0) (letters_word n q0) (breaks_after ms) (breaks_after ns) t in
+    let r = split (letters m) (letters n) (flat_map spaced ms ++ tail) (flat_map spaced ns ++ tail) (letters_word m p0 p1) (letters_word n q0 q1) (breaks_after ms) (breaks_after ns) t in
     ap (λ (k : ℕ). k ∷ ms) (letters_same m n p0 p1 q0 q1 r.0) ∙ ap (λ (ks : List ℕ). n ∷ ks) (motions_same ms ns p2 q2 r.1)
 
 -- the name of a plan that was read is a word
@@ -133,21 +133,15 @@ bytes_say permit s cap f t =
       beyond = λ name ms w known e. says_beyond permit s cap name (word_of_name name w) f ms known t e;
     }
 
--- so does the output of a report
-pub reports : (permit : Proc) (s : List ℕ) (cap room : ℕ) (f : Finding) (answer : Result ℕ ℕ) (out : List ℕ) → Told permit s cap f → answer ≡ answer_of f room → out ≡ out_after f room
-    → Reports permit s cap answer out
-reports permit s cap room f (Err k) out t a o = tt
-reports permit s cap room f (Ok n) out t a o =
-    ⊎_elim
-    (λ y.
-    let z = a ∙ cond-true (leb (length (bytes_of f)) room) (Ok (length (bytes_of f))) (Err 52) y in
-    let k : n ≡ length (bytes_of f) = cc in
-    let bytes : take n out ≡ bytes_of f =
-    ap (λ (j : ℕ). take j out) k
-    ∙ ap (take (length (bytes_of f))) (o ∙ cond-true (leb (length (bytes_of f)) room) (bytes_of f ++ replicate (room - length (bytes_of f)) 0) (replicate room 0) y)
-    ∙ take_at (bytes_of f) (replicate (room - length (bytes_of f)) 0) (length (bytes_of f)) refl in
-    subst (Says permit s cap) (sym bytes) (bytes_say permit s cap f t))
-    (λ x.
-    let z = a ∙ cond-false (leb (length (bytes_of f)) room) (Ok (length (bytes_of f))) (Err 52) x in
-    let w : ◌≡◌ {A = ℕ} 0 1 = cc in absurd (omega arith))
-    (cases_Bool (leb (length (bytes_of f)) room))
+-- so does what is written of it
+pub reports : (permit : Proc) (s : List ℕ) (cap : ℕ) (f : Finding) (n : Sizes) (found : Result Found Refusal) (records : List Record) (rows : List Row) (motions old new : List ℕ) (written : Result ℕ OutputFault)
+    → Told permit s cap f → StandsFor f n found records rows motions → WritesAll old (text_of found motions) written new → Reports permit s cap (numbered output_number written) new
+reports permit s cap f n found records rows motions old new (Err e) t h w = tt
+reports permit s cap f n found records rows motions old new (Ok count) t h (w0, w1, w2) =
+    let bytes = text_of found motions in
+    let shown : take count new ≡ bytes = ap (take count) w2 ∙ take_at bytes (replicate (length old - count) 0) count (sym w0) in
+    subst (Says permit s cap) (sym (shown ∙ bytes_stand found h)) (bytes_say permit s cap f t)
+  where
+    bytes_stand : (x : Result Found Refusal) → StandsFor f n x records rows motions → text_of x motions ≡ bytes_of f
+    bytes_stand (Ok plan) k = k.bytes_are
+    bytes_stand (Err refusal) k = ap bytes_of (sym k)

@@ -5,6 +5,7 @@ use Rattle.certificate.specs.declared.Row.{Row}
 use Rattle.formtable.specs.declared.record.Record.{Record}
 use Rattle.reader.specs.Reading.{empty_record}
 use Rattle.report.specs.Lines.{within_text, beyond_text, refused_text}
+use Rattle.report.specs.Sizes.{Sizes}
 use Rattle.report.specs.Finding.{Finding, lies_within, goes_beyond, is_refused}
 
 -- the bytes that tell a finding
@@ -47,10 +48,10 @@ answer_of f room = by_room f room (Ok (length (bytes_of f))) (Err 52)
 abbrev pub out_after : Finding → ℕ → List ℕ
 out_after f room = by_room f room (bytes_of f ++ replicate (room - length (bytes_of f)) 0) (replicate room 0)
 
--- EXACTLY: the answer, the output of so much room and the caller's lists, for cap records, n rows and m motions, are those of the finding
-pub record Exactly (f : Finding) (room cap n m : ℕ) (answer : Result ℕ ℕ) (out : List ℕ) (records : List Record) (rows : List Row) (motions : List ℕ) : Type 0 where
+-- EXACTLY: the answer, the output of so much room and the caller's lists, of those sizes, are those of the finding
+pub record Exactly (f : Finding) (n : Sizes) (room : ℕ) (answer : Result ℕ ℕ) (out : List ℕ) (records : List Record) (rows : List Row) (motions : List ℕ) : Type 0 where
   pub answer_is : answer ≡ answer_of f room
   pub out_is : out ≡ out_after f room
-  pub records_are : records ≡ records_after (standing f room) cap
-  pub rows_are : rows ≡ rows_after (standing f room) n
-  pub motions_are : motions ≡ motions_after (standing f room) m
+  pub records_are : records ≡ records_after (standing f room) n.records
+  pub rows_are : rows ≡ rows_after (standing f room) n.rows
+  pub motions_are : motions ≡ motions_after (standing f room) n.motions

@@ -9,6 +9,7 @@ use Rattle.lexer.specs.Faults.{text_number}
 use Rattle.lexer.specs.declared.fault.TextFault.{TextFault}
 use Rattle.reader.specs.Reading.{Outline, read_plan}
 use Rattle.gate.specs.Follow.{plain}
+use Rattle.report.specs.Sizes.{Sizes}
 use Rattle.search.specs.Rule.{searched}
 use Rattle.search.specs.Search.{Outcome, inside, beyond, fault}
 
@@ -25,11 +26,11 @@ by_search name records (inside rows) = lies_within name records rows
 by_search name records (beyond motions) = goes_beyond name records motions
 by_search name records (fault k) = is_refused k 0
 
--- by what the text reads as: a plan is searched against the permit, with lists for n rows and m motions
-abbrev pub by_text : Proc → ℕ → ℕ → Result Outline (Located TextFault) → Finding
-by_text permit n m (Ok x) = by_search x.name x.rows (searched plain (process x.rows) permit n m)
-by_text permit n m (Err f) = is_refused (text_number f.fault) f.place
+-- by what the text reads as: a plan is searched against the permit, with lists of those sizes
+abbrev pub by_text : Proc → Sizes → Result Outline (Located TextFault) → Finding
+by_text permit n (Ok x) = by_search x.name x.rows (searched plain (process x.rows) permit n.rows n.motions)
+by_text permit n (Err f) = is_refused (text_number f.fault) f.place
 
--- the finding on a text, with lists for cap records, n rows and m motions
-abbrev pub found : Proc → List ℕ → ℕ → ℕ → ℕ → Finding
-found permit s cap n m = by_text permit n m (read_plan s cap)
+-- the finding on a text, with lists of those sizes
+abbrev pub found : Proc → List ℕ → Sizes → Finding
+found permit s n = by_text permit n (read_plan s n.records)

@@ -1,3 +1,5 @@
+pub mod Refusals
+pub mod Sizes
 pub mod Lines
 pub mod Leaves
 pub mod Finding

@@ -4,5 +4,6 @@
 mod lines;
 mod names;
 mod outcome;
+mod refusal;
 
 pub use outcome::report;

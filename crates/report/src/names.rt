@@ -1,38 +1,25 @@
 // The names of motions, a space before each.
-ghost use Rattle.std.specs.Prelude.{◌≡◌, ◌≤◌, length};
+ghost use Rattle.std.specs.Prelude.{◌≡◌};
 ghost use Rattle.std.specs.List.{flat_map};
 ghost use Rattle.report.specs.Lines.{letters, spaced};
-ghost use Rattle.writing.specs.Output.{Put};
+ghost use Rattle.writing.specs.Output.{Writes};
 
 use motions::name_of;
-use writing::{OutputFault, put_bytes};
+use writing::{Output, OutputFault, Piece};
 
 // The letters of a motion's name; none where there is no such motion.
 fn letters_of(motion: u8) -> &'static [u8]
     ensures { result.now ≡ letters motion }
 {
-    match name_of(motion) {
-        Some(name) => name,
-        None => b"",
-    }
-}
-
-// A space, and the name of a motion.
-fn put_name(out: &mut [u8], at: usize, motion: u8) -> Result<usize, OutputFault>
-    ensures { Put out.old at (spaced motion) out.new result }
-{
-    let next = put_bytes(out, at, b" ")?;
-    put_bytes(out, next, letters_of(motion))
+    name_of(motion).unwrap_or(b"")
 }
 
 // The names of all the motions, in order.
-pub(crate) fn put_names(out: &mut [u8], start: usize, motions: &[u8]) -> Result<usize, OutputFault>
-    requires { start ≤ length out.old }
-    ensures { Put out.old start (flat_map spaced motions.now) out.new result }
+pub(crate) fn put_names(to: &mut Output<'_>, motions: &[u8]) -> Result<(), OutputFault>
+    ensures { Writes to.old (flat_map spaced motions.now) result to.new }
 {
-    let mut at = start;
-    for m in motions {
-        at = put_name(out, at, *m)?;
+    for motion in motions {
+        to.put_pieces(&[Piece::Bytes(b" "), Piece::Bytes(letters_of(*motion))])?;
     }
-    Ok(at)
+    Ok(())
 }

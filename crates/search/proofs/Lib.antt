@@ -1,7 +1,8 @@
 mod Rows
+mod Grown
 mod Trails
+mod Writing
 mod Works
-mod Tails
 pub mod Limits
 pub mod Ways
 pub mod Keeping

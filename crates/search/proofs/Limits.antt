@@ -1,6 +1,7 @@
 -- The search within lists, against the listing worked without a limit.
-use Rattle.std.proofs.Common.{◌≡◌, ℕ, zero, suc, ◌+◌, ◌<◌, ◌≤◌, min, true, false, ltb, ◌⊎◌, List, [], ◌∷◌, ◌++◌, length, get_or, sym, refl, ap, ◌∙◌, subst, inl, inr, ⊎_elim, le_refl, arith}
-use Rattle.std.proofs.lemmas.Bool.{ltb-true, ltb-false, both_ways, cases_lt}
+use Rattle.std.proofs.Common.{◌≡◌, ℕ, zero, suc, ◌+◌, ◌<◌, ◌≤◌, min, ltb, ◌⊎◌, List, [], ◌∷◌, ◌++◌, length, get_or, sym, refl, ap, ◌∙◌, subst, inl, inr, ⊎_elim, le_refl, arith}
+use Rattle.std.proofs.lemmas.Bool.{ltb-true, ltb-false, cases_lt}
+use Rattle.std.proofs.lemmas.Bool.Decides.{nat_tests}
 use Rattle.std.proofs.lemmas.List.{length_push}
 use Rattle.process.specs.declared.moves.Move.{Move}
 use Rattle.process.proofs.Bits.{pick}
@@ -12,7 +13,7 @@ use Rattle.search.specs.Theorems.{Ends}
 
 -- cases
 
-by_ask : (x : Ask) (P : Ask → Type 0) → P idle → P lacking → ((r : Row) → P (append r)) → P x
+pub by_ask : (x : Ask) (P : Ask → Type 0) → P idle → P lacking → ((r : Row) → P (append r)) → P x
 by_ask idle P a b c = a
 by_ask lacking P a b c = b
 by_ask (append r) P a b c = c r
@@ -88,36 +89,32 @@ module _ (E : Engine) where
 
 told_full : (N motions : ℕ) (s : Stage) → N < length (held s) → told N motions s ≡ fault 41
 told_full N motions (going rows) l = refl
-told_full N motions (ends_within rows) l =
-    pick (ltb N (length rows)) (fault 41) (inside rows) (λ z. z ≡ fault 41) (λ t. refl) (λ t. let k = ltb-false N (length rows) t in absurd (omega arith))
-told_full N motions (ends_beyond rows w) l =
-    pick (ltb N (length rows)) (fault 41) (shown motions w) (λ z. z ≡ fault 41) (λ t. refl) (λ t. let k = ltb-false N (length rows) t in absurd (omega arith))
+told_full N motions (ends_within rows) l = grind (arith, nat_tests)
+told_full N motions (ends_beyond rows w) l = grind (arith, nat_tests)
 
 told_within : (N motions : ℕ) (rows : List Row) → length rows ≤ N → told N motions (ends_within rows) ≡ inside rows
-told_within N motions rows l =
-    pick (ltb N (length rows)) (fault 41) (inside rows) (λ z. z ≡ inside rows) (λ t. let k = ltb-true N (length rows) t in absurd (omega arith)) (λ t. refl)
+told_within N motions rows l = grind (arith, nat_tests)
 
 told_shown : (N motions : ℕ) (rows : List Row) (w : List ℕ) → length rows ≤ N → told N motions (ends_beyond rows w) ≡ shown motions w
-told_shown N motions rows w l =
-    pick (ltb N (length rows)) (fault 41) (shown motions w) (λ z. z ≡ shown motions w) (λ t. let k = ltb-true N (length rows) t in absurd (omega arith)) (λ t. refl)
+told_shown N motions rows w l = grind (arith, nat_tests)
 
 -- an end is told in one of four ways
-pub told_cases : (N motions : ℕ) (s : Stage) → Ended s → (P : Outcome → Type 0)
-    → (N < length (held s) → P (fault 41))
-    → ((rows : List Row) → s ≡ ends_within rows → length rows ≤ N → P (inside rows))
-    → ((rows : List Row) (w : List ℕ) → s ≡ ends_beyond rows w → length rows ≤ N → motions < length w → P (fault 42))
-    → ((rows : List Row) (w : List ℕ) → s ≡ ends_beyond rows w → length rows ≤ N → length w ≤ motions → P (beyond w))
-    → P (told N motions s)
+pub told_cases : (N motions : ℕ) (s : Stage) → Ended s → (P : Stage → Outcome → Type 0)
+    → (N < length (held s) → P s (fault 41))
+    → ((rows : List Row) → length rows ≤ N → P (ends_within rows) (inside rows))
+    → ((rows : List Row) (w : List ℕ) → length rows ≤ N → motions < length w → P (ends_beyond rows w) (fault 42))
+    → ((rows : List Row) (w : List ℕ) → length rows ≤ N → length w ≤ motions → P (ends_beyond rows w) (beyond w))
+    → P s (told N motions s)
 told_cases N motions (going rows) h P a b c d = absurd h
 told_cases N motions (ends_within rows) h P a b c d =
-    pick (ltb N (length rows)) (fault 41) (inside rows) P
-    (λ t. a (ltb-true N (length rows) t)) (λ t. b rows refl (ltb-false N (length rows) t))
+    pick (ltb N (length rows)) (fault 41) (inside rows) (P (ends_within rows))
+    (λ t. a (ltb-true N (length rows) t)) (λ t. b rows (ltb-false N (length rows) t))
 told_cases N motions (ends_beyond rows w) h P a b c d =
-    pick (ltb N (length rows)) (fault 41) (shown motions w) P
+    pick (ltb N (length rows)) (fault 41) (shown motions w) (P (ends_beyond rows w))
     (λ t. a (ltb-true N (length rows) t))
-    (λ t. pick (ltb motions (length w)) (fault 42) (beyond w) P
-    (λ u. c rows w refl (ltb-false N (length rows) t) (ltb-true motions (length w) u))
-    (λ u. d rows w refl (ltb-false N (length rows) t) (ltb-false motions (length w) u)))
+    (λ t. pick (ltb motions (length w)) (fault 42) (beyond w) (P (ends_beyond rows w))
+    (λ u. c rows w (ltb-false N (length rows) t) (ltb-true motions (length w) u))
+    (λ u. d rows w (ltb-false N (length rows) t) (ltb-false motions (length w) u)))
 
 module _ (E : Engine) where
   abbrev stage : ℕ → Stage
@@ -129,21 +126,14 @@ module _ (E : Engine) where
   work_grows : (i : ℕ) (rows : List Row) → length rows ≤ length (held_by (work i rows))
   work_grows i rows = moves_grow E i (get_or rows i empty_row) (E.moves (get_or rows i empty_row)) rows
 
-  next_works : (i : ℕ) (rows : List Row) → ltb i (length rows) ≡ true → next E i (going rows) ≡ worked i rows (work i rows)
-  next_works i rows e =
-      pick (ltb i (length rows)) (worked i rows (work i rows)) (ends_within rows) (λ z. z ≡ worked i rows (work i rows))
-      (λ t. refl) (λ t. absurd (both_ways (ltb i (length rows)) t e))
+  next_works : (i : ℕ) (rows : List Row) → i < length rows → next E i (going rows) ≡ worked i rows (work i rows)
+  next_works i rows l = grind (arith, nat_tests)
 
-  next_ends : (i : ℕ) (rows : List Row) → ltb i (length rows) ≡ false → next E i (going rows) ≡ ends_within rows
-  next_ends i rows e =
-      pick (ltb i (length rows)) (worked i rows (work i rows)) (ends_within rows) (λ z. z ≡ ends_within rows)
-      (λ t. absurd (both_ways (ltb i (length rows)) e t)) (λ t. refl)
+  next_ends : (i : ℕ) (rows : List Row) → length rows ≤ i → next E i (going rows) ≡ ends_within rows
+  next_ends i rows l = grind (arith, nat_tests)
 
   next_grows : (i : ℕ) (s : Stage) → length (held s) ≤ length (held (next E i s))
-  next_grows i (going rows) =
-      pick (ltb i (length rows)) (worked i rows (work i rows)) (ends_within rows) (λ z. length rows ≤ length (held z))
-      (λ t. subst (λ (x : List Row). length rows ≤ length x) (sym (held_worked i rows (work i rows))) (work_grows i rows))
-      (λ t. le_refl (length rows))
+  next_grows i (going rows) = grind (arith, nat_tests, held_worked i rows (work i rows), work_grows i rows)
   next_grows i (ends_within rows) = le_refl (length rows)
   next_grows i (ends_beyond rows w) = le_refl (length rows)
 
@@ -169,14 +159,8 @@ module _ (E : Engine) where
 
   -- what holds from a stage to itself and from each to the next holds from each to every later one
   onward : (P : ℕ → Type 0) (d : ℕ) → P d → ((e : ℕ) → P e → P (suc e)) → (e : ℕ) → d ≤ e → P e
-  onward P d p f zero l = subst P (none'' l) p
-    where
-      none'' : d ≤ 0 → d ≡ 0
-      none'' l = omega arith
-  onward P d p f (suc e) l = ⊎_elim (λ o. subst P (last o) p) (λ o. f e (onward P d p f e o)) (cases_lt e d)
-    where
-      last : e < d → d ≡ suc e
-      last o = omega arith
+  onward P d p f zero l = let z : d ≡ 0 = omega arith in subst P z p
+  onward P d p f (suc e) l = ⊎_elim (λ o. let z : d ≡ suc e = omega arith in subst P z p) (λ o. f e (onward P d p f e o)) (cases_lt e d)
 
   grows : (d e : ℕ) → d ≤ e → length (held (stage d)) ≤ length (held (stage e))
   grows d e l =
@@ -208,7 +192,7 @@ module _ (E : Engine) where
   rows_told N motions n (suc d) i e f rows g h l =
       pick (ltb i (length rows)) _ _ (λ z. z ≡ told N motions (stage n))
       (λ t.
-      let here : stage (suc i) ≡ worked i rows (work i rows) = ap (λ (s : Stage). next E i s) g ∙ next_works i rows t in
+      let here : stage (suc i) ≡ worked i rows (work i rows) = ap (λ (s : Stage). next E i s) g ∙ next_works i rows (ltb-true i (length rows) t) in
       pick_trial N (try_row E N i (get_or rows i empty_row) rows) (work i rows)
       (λ rows'. try_rows E N motions d (suc i) rows') (λ a. shown motions (trail i rows i (a ∷ []))) (fault 41)
       (λ z. z ≡ told N motions (stage n))
@@ -226,7 +210,7 @@ module _ (E : Engine) where
       let p : length (held (stage (suc i))) ≡ length (held_by (work i rows)) = ap (λ (s : Stage). length (held s)) here ∙ ap length (held_worked i rows (work i rows)) in
       sym (told_full N motions (stage n) (omega arith))))
       (λ t.
-      let there : stage (suc i) ≡ ends_within rows = ap (λ (s : Stage). next E i s) g ∙ next_ends i rows t in
+      let there : stage (suc i) ≡ ends_within rows = ap (λ (s : Stage). next E i s) g ∙ next_ends i rows (ltb-false i (length rows) t) in
       sym (ap (told N motions) (stays (suc i) n (omega arith) (subst Ended (sym there) tt) ∙ there) ∙ told_within N motions rows l))
 
   -- the search with its lists is read off the listing

@@ -17,8 +17,8 @@ use Rattle.gate.proofs.Soundness.{gate_exact}
 use Rattle.search.specs.Engine.{trail, Work, listed, lost, work_row, Stage, going, ends_within, ends_beyond, worked, next, listing}
 use Rattle.search.specs.Rule.{row0, search_for}
 use Rattle.search.specs.Theorems.{Shortest, Ends}
-use Rattle.search.proofs.Ways.{At, at_below, at_get_d, at_member, member_at, Way, root, branch, way_at, way_run, after_push, way_set, run_after, way_trail}
-use Rattle.search.proofs.Keeping.{Next, Inv, Post, moves_work, advance}
+use Rattle.search.proofs.Ways.{At, at_member, member_at, Way, root, branch, way_at, way_run, after_push, way_set, run_after, way_trail}
+use Rattle.search.proofs.Keeping.{Found, Next, Inv, Post, moves_work, advance}
 
 run_inside : {p : Proc} {s e : ℕ} {w : List ℕ} → Limits p → Run p s w e → s < p.states → e < p.states
 run_inside L nothing l = l
@@ -27,7 +27,7 @@ run_inside L (motion {s = s} {t = t} {a = a} g h q) l = run_inside L q (L.target
 
 one_way : {F : Follow} {plan permit : Proc} {k : ℕ} {r : Row} {w : List ℕ} → Way F plan permit (row0 (F.start permit) ∷ []) k r w → length w ≡ 0
 one_way (root a) = refl
-one_way {F} {permit} (branch {k = k} {r = r} p a l b s g h e) = let n = at_below (row0 (F.start permit) ∷ []) k r a in absurd (omega arith)
+one_way {F} {permit} (branch {k = k} {r = r} p a l b s g h e) = absurd (omega (arith, a.0))
 
 pub way_state : {F : Follow} {plan permit : Proc} {rows : List Row} {k : ℕ} {r : Row} {w : List ℕ} → Limits plan → Way F plan permit rows k r w → r.state < plan.states
 way_state L (root a) = L.some_state
@@ -45,22 +45,22 @@ module _ (F : Follow) (A : AfterLaws F) (plan permit : Proc) (L : Limits plan) (
   begun : Inv F plan permit 0 (row0 (F.start permit) ∷ [])
   begun =
       record {
-        first = refl;
+        first = (omega arith, refl);
         ways = ways';
         alive = alive';
-        apart = λ j k q r g h s t. let m = at_below (row0 (F.start permit) ∷ []) j q g in let n = at_below (row0 (F.start permit) ∷ []) k r h in omega arith;
+        apart = λ j k q r g h s t. omega (arith, g.0, h.0);
         ordered = λ j k q r v w P Q l. omega (arith, one_way P, one_way Q);
         near = λ k q r v w P Q. omega (arith, one_way P, one_way Q);
         worked = λ j q l h. absurd (omega arith);
       }
     where
       ways' : (k : ℕ) (r : Row) → At (row0 (F.start permit) ∷ []) k r → (w : List ℕ) × Way F plan permit (row0 (F.start permit) ∷ []) k r w
-      ways' zero r h = subst (λ (y : Row). (w : List ℕ) × Way F plan permit (row0 (F.start permit) ∷ []) 0 y w) h ([], root refl)
-      ways' (suc k) r h = absurd h
+      ways' zero r h = subst (λ (y : Row). (w : List ℕ) × Way F plan permit (row0 (F.start permit) ∷ []) 0 y w) h.1 ([], root (omega arith, refl))
+      ways' (suc k) r h = absurd (omega (arith, h.0))
 
       alive' : (k : ℕ) (r : Row) → At (row0 (F.start permit) ∷ []) k r → 0 < r.set.bits
-      alive' zero r h = subst (λ (y : Row). 0 < y.set.bits) h (positive (F.start permit) 0 (A.first_in permit M))
-      alive' (suc k) r h = absurd h
+      alive' zero r h = subst (λ (y : Row). 0 < y.set.bits) h.1 (positive (F.start permit) 0 (A.first_in permit M))
+      alive' (suc k) r h = absurd (omega (arith, h.0))
 
   -- every row is worked: the rows justify the plan
   finished : (i : ℕ) (rows : List Row) → Inv F plan permit i rows → length rows ≤ i → Justifies F plan permit rows
@@ -72,9 +72,8 @@ module _ (F : Follow) (A : AfterLaws F) (plan permit : Proc) (L : Limits plan) (
         start_row = (row0 (F.start permit), at_member rows 0 (row0 (F.start permit)) I.first, refl, λ t i. i);
         moves_answered = λ r m v a u run l h.
             let k = member_at rows r m in
-            let n = at_below rows k.0 r k.1 in
-            let f = I.worked k.0 r (omega arith) k.1 v a u run l h in
-            (f.1, at_member rows f.0 f.1 f.2, f.3, λ t i. subst (λ (T : ℕ). In T t) f.4 i);
+            let f = I.worked k.0 r (omega (arith, k.1.0)) k.1 v a u run l h in
+            (f.0.row, at_member rows f.0.place f.0.row f.0.at, f.0.state_is, λ t i. subst (λ (T : ℕ). In T t) f.0.set_is i);
       }
 
   -- runs of the plan that are no longer than the way to row i are runs of the permit
@@ -91,15 +90,15 @@ module _ (F : Follow) (A : AfterLaws F) (plan permit : Proc) (L : Limits plan) (
       early : k < i
       early = ⊎_elim (λ o. o) (λ o. let n = I.ordered i k p r w v W V o in absurd (omega arith)) (cases_lt k i)
 
-      onward : (k' : ℕ) × (r' : Row) × At rows k' r' × (r'.state ≡ t) × (r'.set.bits ≡ F.after permit r.set.bits a) × Next F plan permit rows k k'
+      onward : (f : Found F permit rows r a t) × Next F plan permit rows k f.place
           → ((k' : ℕ) (r' : Row) (v' : List ℕ) → Way F plan permit rows k' r' v' → Run plan r'.state [] t → length v' + length x ≤ length w
           → (y e' : ℕ) × In r'.set.bits y × Run permit y x e')
           → (y e' : ℕ) × In r.set.bits y × Run permit y (a ∷ x) e'
-      onward f ih =
-          let V' = I.ways f.0 f.1 f.2 in
-          let n = f.5 r f.1 v V'.0 V V'.1 in
-          let z = ih f.0 f.1 V'.0 V'.1 (subst (λ (y : ℕ). Run plan y [] t) (sym f.3) nothing) (omega arith) in
-          let o = A.reached permit M r.set.bits a z.0 g (subst (λ (T : ℕ). In T z.0) f.4 z.2) in
+      onward (f, near) ih =
+          let V' = I.ways f.place f.row f.at in
+          let n = near r f.row v V'.0 V V'.1 in
+          let z = ih f.place f.row V'.0 V'.1 (subst (λ (y : ℕ). Run plan y [] t) (sym f.state_is) nothing) (omega arith) in
+          let o = A.reached permit M r.set.bits a z.0 g (subst (λ (T : ℕ). In T z.0) f.set_is z.2) in
           (o.0, z.1, o.1, run_append {s = o.0} {v = z.0} o.2 z.3)
 
   -- a motion lacking at row i: a shortest trace that the permit has not
@@ -148,7 +147,7 @@ module _ (F : Follow) (A : AfterLaws F) (plan permit : Proc) (L : Limits plan) (
       pick (ltb i (length rows)) _ _ (Says (suc i))
       (λ t.
       let q = get_or rows i empty_row in
-      let at = at_get_d rows i empty_row (ltb-true i (length rows) t) in
+      let at : At rows i q = (ltb-true i (length rows) t, refl) in
       work_says i rows q I at (work_row (search_for F plan permit) i q rows)
       (moves_work F plan permit i q (offers plan q.state) (λ a u h. (offers_exact plan L q.state a u).0 h) rows I at))
       (λ t. (finished i rows I (ltb-false i (length rows) t), (i, I)))
@@ -171,4 +170,4 @@ module _ (F : Follow) (A : AfterLaws F) (plan permit : Proc) (L : Limits plan) (
       let s = J.start_row in
       let k = member_at rows s.0 s.1 in
       (gate_exact F A plan permit L M rows).1
-      (record { any_row = (let b = at_below rows k.0 s.0 k.1 in omega arith); few_rows = l; justifies = J })
+      (record { any_row = omega (arith, k.1.0); few_rows = l; justifies = J })

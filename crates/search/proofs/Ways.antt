@@ -1,7 +1,7 @@
 -- Rows by their places, and the way that leads to a row along back.
-use Rattle.std.proofs.Common.{◌≡◌, ℕ, zero, suc, ◌+◌, ◌<◌, ◌≤◌, eqb, ◌⊎◌, List, [], ◌∷◌, ◌++◌, length, get_or, sym, refl, ap, ◌∙◌, subst, inl, inr, ⊎_elim, append_assoc, suc-le-suc, arith}
-use Rattle.std.proofs.lemmas.Bool.{eqb-true}
-use Rattle.std.proofs.lemmas.List.{length_push}
+use Rattle.std.proofs.Common.{◌≡◌, ℕ, zero, suc, ◌+◌, ◌<◌, ◌≤◌, eqb, ◌⊎◌, List, [], ◌∷◌, ◌++◌, length, get_or, sym, refl, ap, ◌∙◌, subst, inl, inr, ⊎_elim, append_assoc, arith}
+use Rattle.std.proofs.lemmas.Bool.{eqb-true, cases_lt}
+use Rattle.std.proofs.lemmas.List.{length_push, get_or_append_left, get_or_push}
 use Rattle.process.specs.Meaning.{Proc, Limits, Steps}
 use Rattle.process.specs.Runs.{Run, nothing, silent, motion}
 use Rattle.process.specs.Sets.{In}
@@ -16,49 +16,31 @@ use Rattle.search.specs.Rule.{row0}
 
 -- row r stands at place k
 abbrev pub At : List Row → ℕ → Row → Type 0
-At [] k r = ⊥
-At (x ∷ xs) zero r = x ≡ r
-At (x ∷ xs) (suc k) r = At xs k r
+At rows k r = (k < length rows) × (get_or rows k empty_row ≡ r)
 
 pub at_append : (rows : List Row) (x : Row) (k : ℕ) (r : Row) → At rows k r → At (rows ++ x ∷ []) k r
-at_append [] x k r h = absurd h
-at_append (y ∷ ys) x zero r h = h
-at_append (y ∷ ys) x (suc k) r h = at_append ys x k r h
+at_append rows x k r h = (omega (arith, h.0, length_push rows x), get_or_append_left rows (x ∷ []) empty_row k h.0 ∙ h.1)
 
 pub at_split : (rows : List Row) (x : Row) (k : ℕ) (r : Row) → At (rows ++ x ∷ []) k r → At rows k r ⊎ ((k ≡ length rows) × (x ≡ r))
-at_split [] x zero r h = inr (refl, h)
-at_split [] x (suc k) r h = absurd h
-at_split (y ∷ ys) x zero r h = inl h
-at_split (y ∷ ys) x (suc k) r h = ⊎_elim (λ o. inl o) (λ e. inr (ap suc e.0, e.1)) (at_split ys x k r h)
-
-pub at_below : (rows : List Row) (k : ℕ) (r : Row) → At rows k r → k < length rows
-at_below [] k r h = absurd h
-at_below (y ∷ ys) zero r h = omega arith
-at_below (y ∷ ys) (suc k) r h = suc-le-suc (at_below ys k r h)
+at_split rows x k r h = ⊎_elim (λ l. inl (l, sym (get_or_append_left rows (x ∷ []) empty_row k l) ∙ h.1)) last (cases_lt k (length rows))
+  where
+    last : length rows ≤ k → At rows k r ⊎ ((k ≡ length rows) × (x ≡ r))
+    last l =
+        let e : length rows ≡ k = omega (arith, h.0, length_push rows x) in
+        inr (sym e, sym (get_or_push rows x empty_row k e) ∙ h.1)
 
 pub at_end : (rows : List Row) (x : Row) → At (rows ++ x ∷ []) (length rows) x
-at_end [] x = refl
-at_end (y ∷ ys) x = at_end ys x
-
-pub at_get_d : (rows : List Row) (k : ℕ) (d : Row) → k < length rows → At rows k (get_or rows k d)
-at_get_d [] k d l = absurd (omega arith)
-at_get_d (y ∷ ys) zero d l = refl
-at_get_d (y ∷ ys) (suc k) d l = at_get_d ys k d (omega arith)
-
-pub get_d_at : (rows : List Row) (k : ℕ) (d r : Row) → At rows k r → get_or rows k d ≡ r
-get_d_at [] k d r h = absurd h
-get_d_at (y ∷ ys) zero d r h = h
-get_d_at (y ∷ ys) (suc k) d r h = get_d_at ys k d r h
+at_end rows x = (omega (arith, length_push rows x), get_or_push rows x empty_row (length rows) refl)
 
 pub at_member : (rows : List Row) (k : ℕ) (r : Row) → At rows k r → Member r rows
-at_member [] k r h = absurd h
-at_member (y ∷ ys) zero r h = inl h
-at_member (y ∷ ys) (suc k) r h = inr (at_member ys k r h)
+at_member [] k r h = absurd (omega (arith, h.0))
+at_member (y ∷ ys) zero r h = inl h.1
+at_member (y ∷ ys) (suc k) r h = inr (at_member ys k r (omega (arith, h.0), h.1))
 
 pub member_at : (rows : List Row) (r : Row) → Member r rows → (k : ℕ) × At rows k r
 member_at [] r h = absurd h
-member_at (y ∷ ys) r (inl e) = (0, e)
-member_at (y ∷ ys) r (inr h) = let q = member_at ys r h in (suc q.0, q.1)
+member_at (y ∷ ys) r (inl e) = (0, (omega arith, e))
+member_at (y ∷ ys) r (inr h) = let q = member_at ys r h in (suc q.0, (omega (arith, q.1.0), q.1.1))
 
 -- the motions w lead to row r at place k along back
 pub data Way (F : Follow) (plan permit : Proc) (rows : List Row) : ℕ → Row → List ℕ → Type 0 where
@@ -76,9 +58,9 @@ way_append {F} {permit} {rows} x (root a) = root (at_append rows x 0 (row0 (F.st
 way_append {rows} x (branch {k = k} {r = r} p a l b s g h e) = branch (way_append x p) (at_append rows x k r a) l b s g h e
 
 pub way_back : {F : Follow} {plan permit : Proc} (rows : List Row) (x : Row) {k : ℕ} {r : Row} {w : List ℕ} → Way F plan permit (rows ++ x ∷ []) k r w → k < length rows → Way F plan permit rows k r w
-way_back {F} {permit} rows x (root a) l = ⊎_elim (λ o. root o) (λ e. let z = e.0 in absurd (omega arith)) (at_split rows x 0 (row0 (F.start permit)) a)
+way_back {F} {permit} rows x (root a) l = ⊎_elim (λ o. root o) (λ e. absurd (omega (arith, e.0))) (at_split rows x 0 (row0 (F.start permit)) a)
 way_back rows x (branch {k = k} {r = r} p a j b s g h e) l =
-    ⊎_elim (λ o. branch (way_back rows x p (omega arith)) o j b s g h e) (λ z. let y = z.0 in absurd (omega arith)) (at_split rows x k r a)
+    ⊎_elim (λ o. branch (way_back rows x p (omega arith)) o j b s g h e) (λ z. absurd (omega (arith, z.0))) (at_split rows x k r a)
 
 -- the last row's way goes through its back
 pub way_last : {F : Follow} {plan permit : Proc} (rows : List Row) (x : Row) {k : ℕ} {r : Row} {w : List ℕ} → 0 < length rows → Way F plan permit (rows ++ x ∷ []) k r w → k ≡ length rows
@@ -92,7 +74,7 @@ way_last {F} {plan} {permit} rows x n (branch {j = j} {k = k} {q = q} {r = r} {w
 )
   where
     same : At rows k r ⊎ ((k ≡ length rows) × (x ≡ r)) → x.back ≡ j
-    same (inl o) = let y = at_below rows k r o in absurd (omega arith)
+    same (inl o) = absurd (omega (arith, o.0))
     same (inr z) = ap (λ (y : Row). y.back) z.1 ∙ b
 
     more : (m : ℕ) → m + 1 ≡ suc m
@@ -134,5 +116,5 @@ way_trail (branch p a j b s g h e) zero l acc = absurd (omega arith)
 way_trail {rows} (branch {j = j} {k = k} {r = r} {w = w} p a i b s g h e) (suc d) l acc =
     pick (eqb k 0) acc (trail d rows (get_or rows k empty_row).back ((get_or rows k empty_row).by ∷ acc)) (λ z. z ≡ (w ++ r.by ∷ []) ++ acc)
     (λ z. let y = eqb-true k 0 z in absurd (omega arith))
-    (λ z. ap (λ (x : Row). trail d rows x.back (x.by ∷ acc)) (get_d_at rows k empty_row r a)
+    (λ z. ap (λ (x : Row). trail d rows x.back (x.by ∷ acc)) (a.1)
     ∙ ap (λ (x : ℕ). trail d rows x (r.by ∷ acc)) b ∙ way_trail p d (omega arith) (r.by ∷ acc) ∙ sym (append_assoc w (r.by ∷ []) acc))

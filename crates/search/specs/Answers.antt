@@ -1,83 +1,58 @@
 -- What the functions of the search return, in the terms of its definitions.
-use Rattle.std.specs.Prelude.{◌≡◌, ℕ, zero, suc, ◌<◌, ◌≤◌, true, false, List, [], ◌∷◌, length, take, Some, None, Ok, Err, Option, Result, ◌==◌, slice_index_or}
-use Rattle.certificate.specs.Rows.{empty_row}
+use Rattle.std.specs.Prelude.{◌≡◌, ℕ, ◌<◌, ◌≤◌, List, [], ◌∷◌, length, take, Ok, Err, Result}
 use Rattle.certificate.specs.declared.Row.{Row}
-use Rattle.search.specs.Engine.{trail}
+use Rattle.search.specs.Back.{way_back, along}
 use Rattle.search.specs.Search.{Outcome, inside, beyond, fault, Trial, kept, stopped, full, shown}
 use Rattle.search.specs.declared.answer.Answer.{Answer}
 use Rattle.search.specs.declared.answer.Answer.TheVariants as answers
 use Rattle.search.specs.declared.answer.SearchFault.{SearchFault}
 use Rattle.search.specs.declared.answer.SearchFault.TheVariants.{RowsFull, MotionsShort}
-use Rattle.search.specs.declared.listing.Work.{Work}
-use Rattle.search.specs.declared.listing.Work.TheVariants as works
-use Rattle.search.specs.declared.listing.Listing as declared
-use Rattle.search.specs.declared.listing.Listing.TheVariants as ends
+use Rattle.search.specs.declared.listing.Stop.{Stop}
+use Rattle.search.specs.declared.listing.Stop.TheVariants as stops
 
 -- the number that each refusal is known by
 abbrev pub search_number : SearchFault → ℕ
 search_number RowsFull = 41
 search_number MotionsShort = 42
 
--- each of the first n rows comes from a row that is not after it
-abbrev pub Earlier : ℕ → List Row → Type 0
-Earlier n rows = (k : ℕ) → k < n → (slice_index_or rows k empty_row).back ≤ k
+-- what work came to, with the rows then listed
+abbrev pub trial_of : Result (Unit {0}) Stop → List Row → Trial
+trial_of (Ok done) rows = kept rows
+trial_of (Err (stops.Lacking i a)) rows = stopped a
+trial_of (Err stops.Full) rows = full
 
--- n rows are listed, no fewer than before, and those listed before stand as they stood
-pub record ListedSo (before : ℕ) (old rows : List Row) (n : ℕ) : Type 0 where
-  pub more : before ≤ n
-  pub fit : n ≤ length rows
-  pub few : n ≤ 1024
-  pub earlier : Earlier n rows
-  pub same_rows : take before rows ≡ take before old
+-- where a motion is lacking, it is at row i
+abbrev pub AtRow : ℕ → Result (Unit {0}) Stop → Type 0
+AtRow i (Ok done) = Unit {0}
+AtRow i (Err (stops.Lacking k a)) = k ≡ i
+AtRow i (Err stops.Full) = Unit {0}
 
--- the rows listed after a row was to be appended
-abbrev pub appended_of : Option ℕ → List Row → Trial
-appended_of (Some n) rows = kept (take n rows)
-appended_of None rows = full
+-- how the listing ends, for a list of so many motions
+abbrev pub end_of : ℕ → Result (Unit {0}) Stop → List Row → Outcome
+end_of motions (Ok done) rows = inside rows
+end_of motions (Err (stops.Lacking i a)) rows = shown motions (along (way_back i rows i) (a ∷ []))
+end_of motions (Err stops.Full) rows = fault 41
 
--- and what they keep
-abbrev pub Appends : ℕ → List Row → Option ℕ → List Row → Type 0
-Appends before old (Some n) rows = ListedSo before old rows n
-Appends before old None rows = Unit {0}
-
--- what the work on a move or a row came to
-abbrev pub work_of : Work → List Row → Trial
-work_of (works.Listed n) rows = kept (take n rows)
-work_of (works.Lacking a) rows = stopped a
-work_of works.Full rows = full
-
--- and what it keeps: the rows listed before, at the least
-abbrev pub Works : ℕ → List Row → Work → List Row → Type 0
-Works before old (works.Listed n) rows = ListedSo before old rows n
-Works before old (works.Lacking a) rows = (before ≤ length rows) × Earlier before rows × (take before rows ≡ take before old)
-Works before old works.Full rows = Unit {0}
-
--- how a listing ends, for a list of so many motions
-abbrev pub end_of : ℕ → declared.Listing → List Row → Outcome
-end_of motions (ends.Within n) rows = inside (take n rows)
-end_of motions (ends.Beyond i a) rows = shown motions (trail i rows i (a ∷ []))
-end_of motions ends.Full rows = fault 41
-
--- and what it keeps: its count, or the row that lacks a motion, lies within the list
-abbrev pub EndsSo : declared.Listing → List Row → Type 0
-EndsSo (ends.Within n) rows = n ≤ length rows
-EndsSo (ends.Beyond i a) rows = (i < length rows) × Earlier (suc i) rows
-EndsSo ends.Full rows = Unit {0}
-
--- how many motions lead to row i along back; d bounds how many are counted
-abbrev pub deep : ℕ → List Row → ℕ → ℕ
-deep zero rows i = 0
-deep (suc d) rows i = elim (i == 0) [ true ↦ 0 | false ↦ suc (deep d rows (slice_index_or rows i empty_row).back) ]
+-- and what it keeps: the row that lacks a motion is listed
+abbrev pub EndsAt : Result (Unit {0}) Stop → List Row → Type 0
+EndsAt (Ok done) rows = Unit {0}
+EndsAt (Err (stops.Lacking i a)) rows = i < length rows
+EndsAt (Err stops.Full) rows = Unit {0}
 
 -- the motions shown, if there is room for them
-abbrev pub shown_of : Option ℕ → List ℕ → Outcome
-shown_of (Some n) motions = beyond (take n motions)
-shown_of None motions = fault 42
+abbrev pub shown_of : Result ℕ SearchFault → List ℕ → Outcome
+shown_of (Ok n) motions = beyond (take n motions)
+shown_of (Err e) motions = fault (search_number e)
 
 -- their count lies within the list
-abbrev pub ShownFit : Option ℕ → ℕ → Type 0
-ShownFit (Some n) motions = n ≤ motions
-ShownFit None motions = Unit {0}
+abbrev pub ShownFit : Result ℕ SearchFault → ℕ → Type 0
+ShownFit (Ok n) motions = n ≤ motions
+ShownFit (Err e) motions = Unit {0}
+
+-- how many rows and how many motions an answer counts
+abbrev pub counts_of : Answer → ℕ × ℕ
+counts_of (answers.Within n) = (n, 0)
+counts_of (answers.Beyond n) = (0, n)
 
 -- what the search came to, by its answer and the lists then
 abbrev pub outcome_of : Result Answer SearchFault → List Row → List ℕ → Outcome

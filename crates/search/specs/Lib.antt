@@ -1,4 +1,7 @@
 pub mod Engine
+pub mod Back
+pub mod Listed
+pub mod WayBack
 pub mod Search
 pub mod Rule
 pub mod Answers

@@ -1,5 +1,6 @@
 // What the search answers.
-ghost use Rattle.search.specs.Answers.{search_number};
+ghost use Rattle.std.specs.Prelude.{◌≡◌};
+ghost use Rattle.search.specs.Answers.{counts_of, search_number};
 
 use common::Numbered;
 
@@ -8,6 +9,18 @@ use common::Numbered;
 pub enum Answer {
     Within(usize),
     Beyond(usize),
+}
+
+impl Answer {
+    // How many rows and how many motions it counts.
+    pub(crate) fn counts(self) -> (usize, usize)
+        ensures { result ≡ counts_of self }
+    {
+        match self {
+            Answer::Within(rows) => (rows, 0),
+            Answer::Beyond(motions) => (0, motions),
+        }
+    }
 }
 
 // Why the search is refused: a list of the caller's is too short.

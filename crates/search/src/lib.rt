@@ -4,6 +4,7 @@
 mod answer;
 mod inclusion;
 mod listing;
+mod question;
 mod rule;
 mod shown;
 pub mod theorems;

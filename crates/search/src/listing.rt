@@ -1,142 +1,138 @@
 // The rows of a listing: worked in order, each new pair of a state and a set once.
-ghost use Rattle.std.specs.Prelude.{◌≡◌, ℕ, ◌<◌, ◌≤◌, min, length, take, slice_index_or};
+ghost use Rattle.std.specs.Prelude.{◌≡◌, ℕ, ◌<◌, ◌≤◌, length, take, slice_index_or};
 ghost use Rattle.certificate.specs.Rows.{empty_row};
-ghost use Rattle.reach.specs.Offers.{rest, offers as offers_from};
-ghost use Rattle.search.specs.Answers.{Earlier, appended_of, Appends, work_of, Works, end_of, EndsSo};
+ghost use Rattle.search.specs.Answers.{trial_of, AtRow, end_of, EndsAt};
+ghost use Rattle.search.specs.Back.{Earlier};
 ghost use Rattle.search.specs.Rule.{unless_listed, asks, ruled};
 ghost use Rattle.search.specs.Search.{try_ask, try_row, search_by};
 
+use crate::question::Question;
 use crate::rule::Rule;
-use certificate::{Row, find_row};
+use certificate::{MAX_ROWS, Row, find_row};
 use process::{Move, Process};
-use reach::Offers;
 
-// How many rows a certificate may have.
-const MAX_ROWS: usize = 1_024;
-
-// The motion of a silent step.
-const SILENT: u8 = 0;
-
-// What work came to: so many rows are listed, the rule had no set for a motion, or a row has no place.
-#[derive(Clone, Copy)]
-pub enum Work {
-    Listed(usize),
-    Lacking(u8),
+// Why the work stops: at a row the rule has no set for a motion, or a row has no place.
+#[derive(Clone, Copy, Debug, PartialEq, Eq)]
+pub(crate) enum Stop {
+    Lacking { row: usize, motion: u8 },
     Full,
 }
 
-// How a listing ends: within, with its count of rows, beyond at a row, for want of a motion, or for want of a place.
-#[derive(Clone, Copy)]
-pub enum Listing {
-    Within(usize),
-    Beyond(usize, u8),
-    Full,
-}
-
-// Appends a row unless one with its state and set is listed: the count of rows then, or None if there is no place.
-fn append(rows: &mut [Row], count: usize, row: Row) -> Option<usize>
-    requires some { count ≤ length rows.old }
-    requires few { count ≤ 1024 }
-    requires earlier { Earlier count rows.old }
-    requires from { row.back ≤ count }
-    ensures value { appended_of result rows.new ≡ try_ask (min (length rows.old) 1024) row.by (take count rows.old) (unless_listed (take count rows.old) row) }
-    ensures keeps { Appends count rows.old result rows.new }
-{
-    if find_row(&rows[0..count], row.state, row.set).is_some() {
-        return Some(count);
-    }
-    if count >= rows.len() || count >= MAX_ROWS {
-        return None;
-    }
-    rows[count] = row;
-    Some(count + 1)
-}
-
-// Works one move of row i: a silent one asks for nothing, and another for the row that it leads to.
-fn work_move<F: Rule>(rule: &F, rows: &mut [Row], count: usize, i: usize, row: Row, m: Move) -> Work
-    requires some { count ≤ length rows.old }
-    requires few { count ≤ 1024 }
-    requires earlier { Earlier count rows.old }
-    requires inside { i < count }
-    ensures value { work_of result rows.new ≡ try_ask (min (length rows.old) 1024) m.motion (take count rows.old) (asks (F.leads rule.now) i row (take count rows.old) m) }
-    ensures keeps { Works count rows.old result rows.new }
-{
-    if m.motion == SILENT {
-        return Work::Listed(count);
-    }
-    let Some(set) = rule.follow(row.set, m) else {
-        return Work::Lacking(m.motion);
-    };
-    let next = Row {
-        state: m.target,
-        set,
-        back: i as u16,
-        by: m.motion,
-    };
-    match append(rows, count, next) {
-        Some(listed) => Work::Listed(listed),
-        None => Work::Full,
-    }
-}
-
-// The moves that a row offers: those of the states in the silent reach of its own.
-fn offers_of<P: Process>(plan: &P, row: Row) -> Offers
-    ensures { rest (P.meaning plan.now) result ≡ offers_from (P.meaning plan.now) row.state }
-{
-    Offers::of(plan, row.state)
-}
-
-// Works the moves that row i offers, in order.
-fn work_row<P: Process, F: Rule>(
-    plan: &P,
-    rule: &F,
-    rows: &mut [Row],
+// The rows listed: the first `count` of the caller's. Each but row 0 comes from a row before it.
+#[derive(Drop)]
+pub(crate) struct Listed<'a> {
+    rows: &'a mut [Row],
     count: usize,
-    i: usize,
-) -> Work
-    requires some { count ≤ length rows.old }
-    requires few { count ≤ 1024 }
-    requires earlier { Earlier count rows.old }
-    requires inside { i < count }
-    ensures value { work_of result rows.new ≡ try_row (ruled (P.meaning plan.now) (F.begins rule.now) (F.leads rule.now)) (min (length rows.old) 1024) i (slice_index_or rows.old i empty_row) (take count rows.old) }
-    ensures keeps { Works count rows.old result rows.new }
-{
-    let row = rows[i];
-    let mut listed = count;
-    let mut offers = offers_of(plan, row);
-    while let Some(m) = offers.next(plan) {
-        match work_move(rule, rows, listed, i, row, m) {
-            Work::Listed(n) => listed = n,
-            Work::Lacking(motion) => return Work::Lacking(motion),
-            Work::Full => return Work::Full,
-        }
-    }
-    Work::Listed(listed)
+    ghost fit: { count ≤ length rows.now },
+    ghost few: { count ≤ 1024 },
+    ghost earlier: { Earlier (take count rows.now) },
 }
 
-// Lists rows from the first on, until none is left to work, a motion is lacking, or a row has no place.
-pub(crate) fn list_rows<P: Process, F: Rule>(plan: &P, rule: &F, rows: &mut [Row]) -> Listing
-    ensures value { (m : ℕ) → end_of m result rows.new ≡ search_by (ruled (P.meaning plan.now) (F.begins rule.now) (F.leads rule.now)) (length rows.old) m }
-    ensures keeps { EndsSo result rows.new }
-{
-    if rows.is_empty() {
-        return Listing::Full;
+impl<'a> Listed<'a> {
+    ghost use Rattle.search.specs.Listed.{listed, room, Grows};
+
+    // No row yet, in the caller's list.
+    pub(crate) fn new(rows: &'a mut [Row]) -> Self
+        ensures empty { result.count ≡ 0 }
+        ensures same_reference { result.rows.ghost_name ≡ rows.entry.ghost_name }
+        ensures same_length { length result.rows.now ≡ length rows.old }
+    {
+        Listed { rows, count: 0 }
     }
-    rows[0] = Row {
-        state: 0,
-        set: rule.start(),
-        back: 0,
-        by: 0,
-    };
-    let mut count = 1;
-    let mut i = 0;
-    while i < count {
-        match work_row(plan, rule, rows, count, i) {
-            Work::Listed(n) => count = n,
-            Work::Lacking(motion) => return Listing::Beyond(i, motion),
-            Work::Full => return Listing::Full,
+
+    // The rows listed.
+    pub(crate) fn as_slice(&self) -> &[Row]
+        ensures { result.now ≡ listed self.now }
+    {
+        &self.rows[..self.count]
+    }
+
+    // Appends a row unless one with its state and set is listed.
+    fn append(&mut self, row: Row) -> Result<(), Stop>
+        requires from { 0 < self.old.count → row.back < self.old.count }
+        ensures value { trial_of result (listed self.new) ≡ try_ask (room self.old) row.by (listed self.old) (unless_listed (listed self.old) row) }
+        ensures at_row { AtRow row.back result }
+        ensures grows { Grows self.old self.new }
+    {
+        if find_row(self.as_slice(), row.state, row.set).is_some() {
+            return Ok(());
         }
-        i += 1;
+        if self.count >= self.rows.len().min(MAX_ROWS) {
+            return Err(Stop::Full);
+        }
+        self.rows[self.count] = row;
+        self.count += 1;
+        Ok(())
     }
-    Listing::Within(count)
+
+    // Works one move of row i: a silent one asks for nothing, and another for the row that it leads to.
+    fn work_move<P: Process, F: Rule>(
+        &mut self,
+        asked: &Question<'_, P, F>,
+        i: usize,
+        row: Row,
+        m: Move,
+    ) -> Result<(), Stop>
+        requires inside { i < self.old.count }
+        ensures value { trial_of result (listed self.new) ≡ try_ask (room self.old) m.motion (listed self.old) (asks (F.leads asked.now.rule.now) i row (listed self.old) m) }
+        ensures at_row { AtRow i result }
+        ensures grows { Grows self.old self.new }
+    {
+        if m.is_silent() {
+            return Ok(());
+        }
+        let set = asked.follow(row.set, m).ok_or(Stop::Lacking {
+            row: i,
+            motion: m.motion,
+        })?;
+        self.append(Row {
+            state: m.target,
+            set,
+            back: i as u16,
+            by: m.motion,
+        })
+    }
+
+    // Works the moves that row i offers, in order.
+    #[tactic(auto, using(crate::proofs::Grown::grows_on))]
+    fn work_row<P: Process, F: Rule>(
+        &mut self,
+        asked: &Question<'_, P, F>,
+        i: usize,
+    ) -> Result<(), Stop>
+        requires inside { i < self.old.count }
+        ensures value { trial_of result (listed self.new) ≡ try_row (ruled (P.meaning asked.now.plan.now) (F.begins asked.now.rule.now) (F.leads asked.now.rule.now)) (room self.old) i (slice_index_or (listed self.old) i empty_row) (listed self.old) }
+        ensures at_row { AtRow i result }
+        ensures grows { Grows self.old self.new }
+    {
+        let row = self.as_slice()[i];
+        for m in asked.offers(row.state) {
+            self.work_move(asked, i, row, m)?;
+        }
+        Ok(())
+    }
+
+    // Lists row 0 and works the rows in order, until none is left, a motion is lacking, or a row has no place.
+    #[tactic(auto, using(crate::proofs::Works::steps))]
+    pub(crate) fn list_all<P: Process, F: Rule>(
+        &mut self,
+        asked: &Question<'_, P, F>,
+    ) -> Result<(), Stop>
+        requires empty { self.old.count ≡ 0 }
+        ensures value { (m : ℕ) → end_of m result (listed self.new) ≡ search_by (ruled (P.meaning asked.now.plan.now) (F.begins asked.now.rule.now) (F.leads asked.now.rule.now)) (length self.old.rows.now) m }
+        ensures at_listed { EndsAt result (listed self.new) }
+        ensures grows { Grows self.old self.new }
+    {
+        self.append(Row {
+            set: asked.start(),
+            ..Row::empty()
+        })?;
+        let mut i = 0;
+        // Kept: the list grows while it is worked, so no iterator can go over it.
+        while i < self.count {
+            self.work_row(asked, i)?;
+            i += 1;
+        }
+        Ok(())
+    }
 }

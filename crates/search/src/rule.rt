@@ -38,6 +38,6 @@ impl<'a, Q: Process> Rule for Permit<'a, Q> {
 
     fn follow(&self, set: StateSet, step: Step) -> Option<StateSet> {
         let next = after(self.process, set, step.motion);
-        if next.is_empty() { None } else { Some(next) }
+        (!next.is_empty()).then_some(next)
     }
 }

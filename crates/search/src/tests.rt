@@ -8,7 +8,6 @@ use crate::inclusion::certify;
 use certificate::Row;
 use common::Numbered;
 use process::{Move, Process};
-use std::test::Fail;
 
 // State 0 steps in silence to state 1, which moves by motion 3 back to state 0.
 #[derive(Drop)]
@@ -99,18 +98,15 @@ fn beyond(rt: HostRuntime) {
 }
 
 #[test]
-fn refused(rt: HostRuntime) -> Result<(), Fail> {
+fn refused(rt: HostRuntime) {
     let mut rows = [used_row(); 1];
     let mut motions = [9; 1];
-    match certify(&Shuttle, &Shuttle, &mut rows[0..0], &mut motions) {
-        Ok(_) => return Err(Fail::new("answered")),
-        Err(fault) => assert_eq!(rt; fault.number(), 41),
-    }
-    match certify(&Shuttle, &Still, &mut rows, &mut motions[0..0]) {
-        Ok(_) => Err(Fail::new("answered")),
-        Err(fault) => {
-            assert_eq!(rt; fault.number(), 42);
-            Ok(())
-        },
-    }
+    assert_eq!(rt;
+        certify(&Shuttle, &Shuttle, &mut rows[0..0], &mut motions).map_err(|fault| fault.number()),
+        Err(41)
+    );
+    assert_eq!(rt;
+        certify(&Shuttle, &Still, &mut rows, &mut motions[0..0]).map_err(|fault| fault.number()),
+        Err(42)
+    );
 }

@@ -1,75 +1,82 @@
 -- The steps of each run take a history that accounts for the record before to one that accounts for the record after.
-use Rattle.std.proofs.Common.{◌≡◌, List, [], ◌∷◌, ◌++◌, sym, refl, subst}
+use Rattle.std.proofs.Common.{◌≡◌, List, [], ◌∷◌, ◌++◌, Some, None, Option, refl, sym, subst, subst₂}
 use Rattle.controller.specs.Accounts.{Accounts}
-use Rattle.controller.specs.Histories.{Call, Answer, granted, denied, event, History}
+use Rattle.controller.specs.Histories.{Call, Answer, event}
 use Rattle.controller.specs.Record.{Record, factory, answer, next}
 use Rattle.controller.specs.Rules.{Bounded}
 use Rattle.controller.proofs.Ties.{accounted, new_accounts}
 use Rattle.task.specs.declared.step.Asked.{Asked}
 use Rattle.task.specs.declared.step.Asked.TheVariants.{AdmitFirst, AdmitSecond, Start, Release, Done, Failed, Rest}
-use Rattle.task.specs.declared.step.Step.{Step}
-use Rattle.task.specs.declared.step.Step.TheVariants.{Made}
-use Rattle.task.specs.Steps.{answer_of, reply_of, call_of, through, Steps}
+use Rattle.task.specs.declared.step.Made.{Made}
+use Rattle.task.specs.Steps.{answer_of, call_of, Steps}
 use Rattle.task.specs.Task.{first_run_steps, stale_slip_steps, second_run_steps, first_admission, second_admission, after_first, after_stale, after_second, history_of}
-use Rattle.task.proofs.Carry.{counts_both}
 use Rattle.task.proofs.Computed.{permit_limits, first_limits, second_limits}
 
-told_back : (x : Answer) → answer_of (reply_of x) ≡ x
-told_back (granted n) = refl
-told_back (denied n i) = refl
+-- the call that was asked for
+abbrev asked_for : Made → Call
+asked_for m = call_of first_admission second_admission m.asked
 
-module _ (a b : Call) (first : Bounded a) (second : Bounded b) where
-  -- the steps that the record answers with, and the record that they leave
-  abbrev pub played : List Asked → Record → List Step
-  played [] c = []
-  played (q ∷ qs) c = Made q (reply_of (answer c (call_of a b q))) ∷ played qs (next c (call_of a b q))
+-- the answers that steps tell, those that the record gives to their calls, and the record then
+abbrev told : List (Option Made) → List Answer
+told [] = []
+told (Some m ∷ ss) = answer_of m.reply ∷ told ss
+told (None ∷ ss) = told ss
 
-  abbrev pub played_to : List Asked → Record → Record
-  played_to [] c = c
-  played_to (q ∷ qs) c = played_to qs (next c (call_of a b q))
+abbrev answers : List (Option Made) → Record → List Answer
+answers [] c = []
+answers (Some m ∷ ss) c = answer c (asked_for m) ∷ answers ss (next c (asked_for m))
+answers (None ∷ ss) c = answers ss c
 
-  limits : (q : Asked) → Bounded (call_of a b q)
-  limits AdmitFirst = first
-  limits AdmitSecond = second
-  limits Start = tt
-  limits (Release m) = tt
-  limits (Done k) = tt
-  limits (Failed k) = tt
-  limits Rest = tt
+abbrev played : List (Option Made) → Record → Record
+played [] c = c
+played (Some m ∷ ss) c = played ss (next c (asked_for m))
+played (None ∷ ss) c = played ss c
 
-  pub accounts_for : (qs : List Asked) (c : Record) (h : History) → Accounts h c → Accounts (through a b (played qs c) h) (played_to qs c)
-  accounts_for [] c h A = A
-  accounts_for (q ∷ qs) c h A =
-      let k = call_of a b q in
-      subst (λ (x : Answer). Accounts (through a b (played qs (next c k)) (event k x ∷ h)) (played_to qs (next c k))) (sym (told_back (answer c k)))
-      (accounts_for qs (next c k) (event k (answer c k) ∷ h) (accounted k (limits q) c (next c k) (answer c k) refl refl h A))
+limits : (q : Asked) → Bounded (call_of first_admission second_admission q)
+limits AdmitFirst = (first_limits, permit_limits)
+limits AdmitSecond = (second_limits, permit_limits)
+limits Start = tt
+limits (Release m) = tt
+limits (Done k) = tt
+limits (Failed k) = tt
+limits Rest = tt
 
--- what each run asks for
-run_asks : List Asked
-run_asks = AdmitFirst ∷ Start ∷ Release 12 ∷ Done 1 ∷ Release 1 ∷ Done 2 ∷ Release 6 ∷ Release 13 ∷ Failed 3 ∷ []
+-- steps that tell what the record answers
+counts : (ss : List (Option Made)) (c : Record) → told ss ≡ answers ss c → Steps first_admission second_admission c ss (played ss c)
+counts [] c e h A = A
+counts (Some m ∷ ss) c e h A =
+    let k = asked_for m in
+    let x = answer_of m.reply in
+    counts ss (next c k) (cc) (event k x ∷ h) (accounted k (limits m.asked) c (next c k) x (cc) refl h A)
+counts (None ∷ ss) c e h A = counts ss c e h A
 
-slip_asks : List Asked
-slip_asks = Start ∷ Release 12 ∷ Rest ∷ Start ∷ Done 4 ∷ []
-
-second_asks : List Asked
-second_asks = Rest ∷ AdmitSecond ∷ Start ∷ Release 12 ∷ Done 5 ∷ Release 6 ∷ Done 6 ∷ []
-
--- the steps written out are those that the record answers with
+-- and so do those written out
 pub first_run_counts : Steps first_admission second_admission factory first_run_steps after_first
-unfolding run_asks
-first_run_counts = accounts_for first_admission second_admission (first_limits, permit_limits) (second_limits, permit_limits) run_asks factory
+first_run_counts = counts first_run_steps factory refl
 
 pub stale_slip_counts : Steps first_admission second_admission after_first stale_slip_steps after_stale
-unfolding slip_asks
-stale_slip_counts = accounts_for first_admission second_admission (first_limits, permit_limits) (second_limits, permit_limits) slip_asks after_first
+stale_slip_counts = counts stale_slip_steps after_first refl
 
 pub second_run_counts : Steps first_admission second_admission after_stale second_run_steps after_second
-unfolding second_asks
-second_run_counts = accounts_for first_admission second_admission (first_limits, permit_limits) (second_limits, permit_limits) second_asks after_stale
+second_run_counts = counts second_run_steps after_stale refl
 
--- one after the other, from the factory on
-pub whole_accounts : Accounts (history_of (first_run_steps ++ stale_slip_steps ++ second_run_steps)) after_second
-whole_accounts =
-    counts_both first_admission second_admission (first_run_steps ++ stale_slip_steps) second_run_steps factory after_stale after_second
-    (counts_both first_admission second_admission first_run_steps stale_slip_steps factory after_first after_stale first_run_counts stale_slip_counts)
-    second_run_counts [] (new_accounts factory refl)
+-- a run that makes steps that count, between the same records
+pub run_made : {xs ys : List (Option Made)} {c d e f : Record} → Steps first_admission second_admission c xs d → e ≡ c → ys ≡ xs → f ≡ d
+    → record { steps : ys ≡ xs; after : f ≡ d; accounts : Steps first_admission second_admission e ys f }
+run_made {xs} {ys} {c} {d} {e} {f} s p q r =
+    record {
+      steps = q;
+      after = r;
+      accounts =
+          subst (λ (x : Record). Steps first_admission second_admission x ys f) (sym p)
+          (subst₂ (λ (zs : List (Option Made)) (y : Record). Steps first_admission second_admission c zs y) (sym q) (sym r) s);
+    }
+
+-- and all of them, from the factory on
+whole_accounts : Accounts (history_of (first_run_steps ++ stale_slip_steps ++ second_run_steps)) after_second
+whole_accounts = counts (first_run_steps ++ stale_slip_steps ++ second_run_steps) factory refl [] (new_accounts factory refl)
+
+-- and so do steps that come to just these
+pub steps_account : (ss ts : List (Option Made)) (c : Record) → ss ≡ first_run_steps ++ stale_slip_steps → ts ≡ second_run_steps → c ≡ after_second
+    → Accounts (history_of (ss ++ ts)) c
+steps_account ss ts c p q e = subst₂ (λ (us : List (Option Made)) (x : Record). Accounts (history_of us) x) (sym (λ i. p i ++ q i)) (sym e) whole_accounts

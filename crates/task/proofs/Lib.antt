@@ -1,4 +1,4 @@
-pub mod Carry
+pub mod Replies
 pub mod Chain
 pub mod Computed
 pub mod History

@@ -1,103 +1,89 @@
 // The controller's calls as steps of a task.
 ghost use Rattle.std.specs.Prelude.{◌≡◌};
-ghost use Rattle.controller.specs.Answers.{plain_told, admit_told};
-ghost use Rattle.controller.specs.Histories.Call.{admit as an_admit, start as a_start, done as a_done, failed as a_failed, rest as a_rest};
+ghost use Rattle.controller.specs.Histories.Call.{admit as an_admit, start as a_start, release as a_release, done as a_done, failed as a_failed, rest as a_rest};
 ghost use Rattle.controller.specs.View.{view};
-ghost use Rattle.task.specs.declared.step.Asked.TheVariants.{Start, Done, Failed, Rest};
-ghost use Rattle.task.specs.Steps.{reply_of, Makes, number_of, Releases, HandsBack};
+ghost use Rattle.task.specs.declared.step.Asked.TheVariants.{Start, Release, Done, Failed, Rest};
+ghost use Rattle.task.specs.Steps.{unplaced, Makes, number_of, slip_of, HandsBack};
 
-use crate::step::{Asked, Reply, Step};
+use crate::step::{Asked, Made};
 use certificate::Row;
-use common::{Located, Numbered};
-use controller::{AdmitFault, Controller, DriverFault, Slip};
+use common::Located;
+use controller::{Controller, DriverFault, Slip};
 use process::Process;
 
-// A driver's answer as a reply.
-fn plain(r: Result<(), DriverFault>) -> Reply
-    ensures { result ≡ reply_of (plain_told r) }
+// A call of the driver; its denials have place 0.
+fn made(asked: Asked, told: Result<Option<u32>, DriverFault>) -> Made
+    ensures { result ≡ record { asked = asked; reply = unplaced told } }
 {
-    match r {
-        Ok(()) => Reply::Granted(0),
-        Err(fault) => Reply::Denied(fault.number(), 0),
+    Made {
+        asked,
+        reply: told.map_err(Located::from),
     }
 }
 
-// An admission's answer as a reply.
-fn placed(r: Result<(), Located<AdmitFault>>) -> Reply
-    ensures { result ≡ reply_of (admit_told r) }
-{
-    match r {
-        Ok(()) => Reply::Granted(0),
-        Err(at) => Reply::Denied(at.fault.number(), at.place),
-    }
+// What an admission brings: a plan, a permit, and the rows of a certificate.
+#[derive(Clone, Copy)]
+pub(crate) struct Admission<'a, P, Q> {
+    pub plan: &'a P,
+    pub permit: &'a Q,
+    pub rows: &'a [Row],
 }
 
 // Admits a plan; `asked` says which one.
 pub(crate) fn admit<P: Process, Q: Process>(
     c: &mut Controller,
     asked: Asked,
-    plan: &P,
-    permit: &Q,
-    rows: &[Row],
-) -> Step
-    ensures { Makes asked (an_admit (P.meaning plan.now) (Q.meaning permit.now) rows.now) (view c.old) result (view c.new) }
+    admission: Admission<'_, P, Q>,
+) -> Made
+    ensures { Makes asked (an_admit (P.meaning admission.entry.plan.now) (Q.meaning admission.entry.permit.now) admission.entry.rows.now) (view c.old) result (view c.new) }
 {
-    let told = c.admit(plan, permit, rows);
-    Step::Made(asked, placed(told))
+    let told = c.admit(admission.plan, admission.permit, admission.rows);
+    let reply = told.map(|()| None);
+    Made { asked, reply }
 }
 
 // Starts a run.
-pub(crate) fn start(c: &mut Controller) -> Step
+pub(crate) fn start(c: &mut Controller) -> Made
     ensures { Makes Start a_start (view c.old) result (view c.new) }
 {
-    let told = c.start();
-    Step::Made(Asked::Start, plain(told))
+    made(Asked::Start, c.start().map(|()| None))
 }
 
 // Ends a run.
-pub(crate) fn rest(c: &mut Controller) -> Step
+// Kept: like start but for the call, and a line each; a function that takes the call as a closure is no shorter.
+pub(crate) fn rest(c: &mut Controller) -> Made
     ensures { Makes Rest a_rest (view c.old) result (view c.new) }
 {
-    let told = c.rest();
-    Step::Made(Asked::Rest, plain(told))
+    made(Asked::Rest, c.rest().map(|()| None))
 }
 
 // Releases a motion; the slip is there if it is granted.
-pub(crate) fn release(c: &mut Controller, motion: u8) -> (Step, Option<Slip>)
-    ensures { Releases motion (view c.old) result.0 (number_of result.1) (view c.new) }
+pub(crate) fn release(c: &mut Controller, motion: u8) -> (Made, Option<Slip>)
+    ensures made { Makes (Release motion) (a_release motion) (view c.old) result.0 (view c.new) }
+    ensures slip { number_of result.1 ≡ slip_of result.0.reply }
 {
-    match c.release(motion) {
-        Ok(slip) => {
-            let reply = Reply::Granted(slip.number());
-            (Step::Made(Asked::Release(motion), reply), Some(slip))
-        }
-        Err(fault) => {
-            let reply = Reply::Denied(fault.number(), 0);
-            (Step::Made(Asked::Release(motion), reply), None)
-        }
-    }
+    let (told, slip) = match c.release(motion) {
+        Ok(slip) => (Ok(Some(slip.number())), Some(slip)),
+        Err(fault) => (Err(fault), None),
+    };
+    (made(Asked::Release(motion), told), slip)
 }
 
-// Says that the motion of the slip is done.
-pub(crate) fn done(c: &mut Controller, slip: Option<Slip>) -> Step
+// Says that the motion of the slip is done; without a slip nothing is asked.
+pub(crate) fn done(c: &mut Controller, slip: Option<Slip>) -> Option<Made>
     ensures { HandsBack Done a_done (number_of slip) (view c.old) result (view c.new) }
 {
-    let Some(slip) = slip else {
-        return Step::LeftOut;
-    };
-    let number = slip.number();
-    let told = c.done(slip);
-    Step::Made(Asked::Done(number), plain(told))
+    let slip = slip?;
+    let asked = Asked::Done(slip.number());
+    Some(made(asked, c.done(slip).map(|()| None)))
 }
 
-// Says that the motion of the slip failed.
-pub(crate) fn failed(c: &mut Controller, slip: Option<Slip>) -> Step
+// Says that the motion of the slip failed; without a slip nothing is asked.
+// Kept: like done but for the call; a function that takes the call as a closure needs more clauses than this has lines.
+pub(crate) fn failed(c: &mut Controller, slip: Option<Slip>) -> Option<Made>
     ensures { HandsBack Failed a_failed (number_of slip) (view c.old) result (view c.new) }
 {
-    let Some(slip) = slip else {
-        return Step::LeftOut;
-    };
-    let number = slip.number();
-    let told = c.failed(slip);
-    Step::Made(Asked::Failed(number), plain(told))
+    let slip = slip?;
+    let asked = Asked::Failed(slip.number());
+    Some(made(asked, c.failed(slip).map(|()| None)))
 }

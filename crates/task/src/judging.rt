@@ -1,22 +1,29 @@
 // Judging plans against a permit: reading, vetting and the search.
-ghost use Rattle.std.specs.Prelude.{◌≡◌, length};
-ghost use Rattle.formtable.specs.Table.{contents as forms_in, held as forms_held};
-ghost use Rattle.formtable.specs.Vet.{verdict as form_verdict};
+ghost use Rattle.std.specs.Prelude.{◌≡◌, [], ◌∷◌};
+ghost use Rattle.gate.specs.Follow.{plain};
 ghost use Rattle.reader.specs.Reading.{read_plan};
-ghost use Rattle.rowtable.specs.Rows.{held as rows_held, verdict as row_verdict};
-ghost use Rattle.rowtable.specs.Table.{contents as rows_in};
-ghost use Rattle.task.specs.Findings.{vet_finding, load_findings, load_records, Judged, certificate_in};
+ghost use Rattle.search.specs.Rule.{searched};
+ghost use Rattle.task.specs.Findings.{Loads, Searches, certificate_in};
+ghost use Rattle.task.specs.declared.judging.Finding.TheVariants.{Read, Vetted, Searched};
+ghost use Rattle.task.specs.declared.judging.Refusal.TheVariants.{Text, Form, Row as Rows, Search};
 
 use certificate::Row;
-use common::Numbered;
-use formtable::{FormTable, Record};
+use common::Located;
+use formtable::{FormFault, FormTable, Record};
+use lexer::TextFault;
 use process::Process;
 use reader::read;
-use rowtable::{RowTable, Transition};
-use search::{Answer, certify};
+use rowtable::RowFault;
+use search::{Answer, SearchFault, certify};
 
 // How many records a plan's text may fill.
 const RECORDS: usize = 16;
+
+// How many rows a certificate may have here.
+const ROWS: usize = 16;
+
+// How many motions are shown of a plan that is beyond the permit.
+pub(crate) const SHOWN: usize = 8;
 
 // What was found on the way to a certificate.
 #[derive(Clone, Copy, Debug, PartialEq, Eq)]
@@ -25,75 +32,104 @@ pub enum Finding {
     Read(usize),
     // The table is vetted.
     Vetted,
-    // The plan is within the permit, by so many rows.
-    Within(usize),
-    // The plan is beyond the permit, by so many motions.
-    Beyond(usize),
-    // Refused, by the number of a fault.
-    Refused(u8),
+    // What the search came to.
+    Searched(Answer),
 }
 
-// Vets the records of a plan.
-fn vet_forms(records: &[Record], plan: &mut FormTable) -> Finding
-    ensures finding { result ≡ vet_finding (form_verdict records.now) }
-    ensures holds { forms_in plan.new ≡ forms_held (form_verdict records.now) records.now }
+// The findings on a plan of so many records by its text.
+pub(crate) fn found(records: usize, answer: Answer) -> [Finding; 3]
+    ensures { result ≡ Read records ∷ Vetted ∷ Searched answer ∷ [] }
 {
-    match plan.vet(records) {
-        Ok(()) => Finding::Vetted,
-        Err(fault) => Finding::Refused(fault.number()),
+    [
+        Finding::Read(records),
+        Finding::Vetted,
+        Finding::Searched(answer),
+    ]
+}
+
+// Why a plan is not judged.
+#[derive(Clone, Copy, Debug, PartialEq, Eq)]
+pub(crate) enum Refusal {
+    Text(Located<TextFault>),
+    Form(FormFault),
+    Row(RowFault),
+    Search(SearchFault),
+}
+
+impl From<Located<TextFault>> for Refusal {
+    ghost from_gives = { λ e r. r ≡ Text e };
+
+    fn from(at: Located<TextFault>) -> Self {
+        Refusal::Text(at)
     }
 }
 
-// Reads a plan and vets it.
-pub(crate) fn load(text: &[u8], plan: &mut FormTable) -> [Finding; 2]
-    ensures findings { result ≡ load_findings (read_plan text.now 16) }
-    ensures holds { forms_in plan.new ≡ load_records (read_plan text.now 16) (forms_in plan.old) }
+impl From<FormFault> for Refusal {
+    ghost from_gives = { λ e r. r ≡ Form e };
+
+    fn from(fault: FormFault) -> Self {
+        Refusal::Form(fault)
+    }
+}
+
+impl From<RowFault> for Refusal {
+    ghost from_gives = { λ e r. r ≡ Rows e };
+
+    fn from(fault: RowFault) -> Self {
+        Refusal::Row(fault)
+    }
+}
+
+impl From<SearchFault> for Refusal {
+    ghost from_gives = { λ e r. r ≡ Search e };
+
+    fn from(fault: SearchFault) -> Self {
+        Refusal::Search(fault)
+    }
+}
+
+// Reads a plan and vets it: how many records were read, and the table that holds them.
+pub(crate) fn load(text: &[u8]) -> Result<(usize, FormTable), Refusal>
+    ensures { Loads (read_plan text.now 16) result }
 {
     let mut records = [Record::EMPTY; RECORDS];
-    match read(text, &mut records) {
-        Ok(found) => {
-            let count = found.count;
-            let vetted = vet_forms(&records[0..count], plan);
-            [Finding::Read(count), vetted]
+    let count = read(text, &mut records)?.count;
+    let mut plan = FormTable::new();
+    plan.vet(&records[..count])?;
+    Ok((count, plan))
+}
+
+// What the search for a certificate came to, with the lists that it left.
+// Kept: lists of a fixed length with their count in the answer, since a library uses no heap.
+#[derive(Clone, Copy)]
+pub(crate) struct Judged {
+    pub answer: Answer,
+    pub rows: [Row; ROWS],
+    pub motions: [u8; SHOWN],
+}
+
+impl Judged {
+    // Searches for a certificate.
+    pub(crate) fn of<P: Process, Q: Process>(plan: &P, permit: &Q) -> Result<Self, SearchFault>
+        ensures { Searches (searched plain (P.meaning plan.now) (Q.meaning permit.now) 16 8) result }
+    {
+        let mut rows = [Row::empty(); ROWS];
+        let mut motions = [0; SHOWN];
+        let answer = certify(plan, permit, &mut rows, &mut motions)?;
+        Ok(Judged {
+            answer,
+            rows,
+            motions,
+        })
+    }
+
+    // The rows of the certificate; none where the plan is beyond the permit.
+    pub(crate) fn certificate(&self) -> &[Row]
+        ensures { result.now ≡ certificate_in self.now.answer self.now.rows }
+    {
+        match self.answer {
+            Answer::Within(count) => self.rows.get(..count).unwrap_or(&self.rows),
+            Answer::Beyond(_) => &[],
         }
-        Err(at) => [Finding::Refused(at.fault.number()); 2],
-    }
-}
-
-// Vets the rows of a plan.
-pub(crate) fn vet_rows(states: u8, rows: &[Transition], plan: &mut RowTable) -> Finding
-    ensures finding { result ≡ vet_finding (row_verdict states rows.now) }
-    ensures holds { rows_in plan.new ≡ rows_held (row_verdict states rows.now) states rows.now }
-{
-    match plan.vet(states, rows) {
-        Ok(()) => Finding::Vetted,
-        Err(fault) => Finding::Refused(fault.number()),
-    }
-}
-
-// Searches for a certificate.
-pub(crate) fn judge<P: Process, Q: Process>(
-    plan: &P,
-    permit: &Q,
-    rows: &mut [Row],
-    motions: &mut [u8],
-) -> Finding
-    ensures { Judged (P.meaning plan.now) (Q.meaning permit.now) (length rows.old) (length motions.old) result rows.new motions.new }
-{
-    match certify(plan, permit, rows, motions) {
-        Ok(Answer::Within(count)) => Finding::Within(count),
-        Ok(Answer::Beyond(count)) => Finding::Beyond(count),
-        Err(fault) => Finding::Refused(fault.number()),
-    }
-}
-
-// The rows of the certificate that was found; none where there is no certificate.
-pub(crate) fn certificate<'a>(rows: &'a [Row], finding: Finding) -> &'a [Row]
-    ensures { result.now ≡ certificate_in finding rows.now }
-{
-    match finding {
-        Finding::Within(count) if count < rows.len() => &rows[0..count],
-        Finding::Within(_) => rows,
-        _ => &rows[0..0],
     }
 }

@@ -8,5 +8,5 @@ mod step;
 mod whole;
 
 pub use judging::Finding;
-pub use step::{Asked, Reply, Step};
+pub use step::{Asked, Made, Reply};
 pub use whole::{Outcome, one_task};

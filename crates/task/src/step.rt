@@ -1,5 +1,8 @@
 // The steps of a task: what was asked of the controller, and the reply.
 
+use common::Located;
+use controller::AdmitFault;
+
 // A call; done and failed bear the number of their slip.
 #[derive(Clone, Copy, Debug, PartialEq, Eq)]
 pub enum Asked {
@@ -12,16 +15,12 @@ pub enum Asked {
     Rest,
 }
 
-// A grant with the number of its slip, 0 where there is none, or a denial with its number and place.
-#[derive(Clone, Copy, Debug, PartialEq, Eq)]
-pub enum Reply {
-    Granted(u32),
-    Denied(u8, usize),
-}
+// The number of the slip that a granted call gives, if it gives one; or the fault for which a call is denied.
+pub type Reply = Result<Option<u32>, Located<AdmitFault>>;
 
-// A call that was made, with its reply, or one left out for want of a slip.
+// A call that was made, with its reply.
 #[derive(Clone, Copy, Debug, PartialEq, Eq)]
-pub enum Step {
-    Made(Asked, Reply),
-    LeftOut,
+pub struct Made {
+    pub asked: Asked,
+    pub reply: Reply,
 }

@@ -7,8 +7,8 @@ pub mod pieces;
 pub mod words;
 
 pub use fault::OutputFault;
-pub use output::{clear_from, put_bytes, put_number};
-pub use pieces::{Piece, put_piece, put_pieces};
+pub use output::Output;
+pub use pieces::Piece;
 pub use words::is_word;
 
 #[cfg(test)]

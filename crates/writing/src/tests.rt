@@ -1,5 +1,5 @@
 use crate::fault::OutputFault;
-use crate::output::put_number;
+use crate::output::Output;
 use crate::words::is_word;
 
 #[test]
@@ -13,7 +13,10 @@ fn words(rt: HostRuntime) {
 #[test]
 fn numbers(rt: HostRuntime) {
     let mut out = [0; 3];
-    assert!(rt; put_number(&mut out, 1, 24) == Ok(3));
+    let mut to = Output::at(&mut out, 1).unwrap();
+    assert!(rt; to.put_number(24) == Ok(()));
+    assert!(rt; to.finish() == 3);
     assert!(rt; out == [0, b'2', b'4']);
-    assert!(rt; put_number(&mut out, 2, 24) == Err(OutputFault::Short));
+    let mut to = Output::at(&mut out, 2).unwrap();
+    assert!(rt; to.put_number(24) == Err(OutputFault::Short));
 }

@@ -4,6 +4,6 @@ use Rattle.worked.specs.Table.{lanes}
 use Rattle.worked.proofs.Saying.{all_stand}
 use Rattle.worked.proofs.lanes_stand.Goals as goal
 
-pub returns : goal.returns
+pub returns-clause-stand : goal.returns-clause-stand
 unfolding next_tok
-returns c = record { count = c.count.ensures; stand = all_stand lanes refl }
+returns-clause-stand c = all_stand lanes refl

@@ -1,23 +1,38 @@
-use Rattle.std.proofs.Common.{sym, ◌∙◌}
-use Rattle.std.proofs.lemmas.List.{at_drop_all}
-use Rattle.lexer.specs.Lex.{lex}
-use Rattle.lexer.proofs.Steps.{lex_at}
+use Rattle.std.proofs.Common.{sym, ◌∙◌, rules}
+use Rattle.std.proofs.lemmas.Bool.{ltb-false}
+use Rattle.std.proofs.lemmas.List.Sums.{prefix_len-le-length}
+use Rattle.lexer.specs.Bytes.{blank}
+use Rattle.lexer.proofs.Steps.{front_blanks, lex_at, lex_end, not_blank}
 use Rattle.lexer.proofs.lex.next_token.Goals as goal
+use Rattle.lexer.proofs.lex.next_token.Goals.{in-Open, in-Close}
 
-pub returns-in-Open : goal.returns-in-Open
-returns-in-Open c = record { step = sym (lex_at _ _ _ c.loop-i-test.true c.in-Open.ensures) ∙ c.loop-i.invariant; part = tt }
+pub overflow_add-place : goal.overflow_add-place
+overflow_add-place c = let le = prefix_len-le-length blank c.in-Some.rest.now in search rules
 
-pub returns-in-Close : goal.returns-in-Close
-returns-in-Close c = record { step = sym (lex_at _ _ _ c.loop-i-test.true c.in-Close.ensures) ∙ c.loop-i.invariant; part = tt }
+pub returns-in_default-get-clause-step : goal.returns-in_default-get-clause-step
+returns-in_default-get-clause-step c =
+    let e = front_blanks c.args.text.now c.args.at c.in-Some.ensures.lookup.0.2 c.blank_len.ensures in
+    lex_end c.args.text.now c.args.at _ e (ltb-false _ _ (sym c.in_default-get.ensures.lookup.0))
 
-pub returns-in-Foreign : goal.returns-in-Foreign
-returns-in-Foreign c = record { step = sym (lex_at _ _ _ c.loop-i-test.true c.in-Foreign.ensures) ∙ c.loop-i.invariant; part = tt }
+pub unreachable-requires : goal.unreachable-requires
+unreachable-requires c =
+    let e = front_blanks c.args.text.now c.args.at c.in-Some.ensures.lookup.0.2 c.blank_len.ensures in
+    not_blank c.args.text.now c.args.at _ e _ c.in-Some-get.ensures.lookup.3 c.in-Blank.ensures
 
-pub returns-in-Letter : goal.returns-in-Letter
-returns-in-Letter c = record { step = c.word_at.ensures.step ∙ sym (lex_at _ _ _ c.loop-i-test.true c.in-Letter.ensures) ∙ c.loop-i.invariant; part = c.word_at.ensures.part }
+pub returns-in-Letter-clause-step : goal.returns-in-Letter-clause-step
+returns-in-Letter-clause-step c =
+    let e = front_blanks c.args.text.now c.args.at c.in-Some.ensures.lookup.0.2 c.blank_len.ensures in
+    c.word_at.ensures.step ∙ lex_at c.args.text.now c.args.at _ e _ c.in-Some-get.ensures.lookup.3 _ c.in-Letter.ensures
 
-pub loop-i-preserved : goal.loop-i-preserved
-loop-i-preserved c = sym (lex_at _ _ _ c.loop-i-test.true c.in-Blank.ensures) ∙ c.loop-i.invariant
+pub returns-in-Foreign-clause-step : goal.returns-in-Foreign-clause-step
+returns-in-Foreign-clause-step c =
+    let e = front_blanks c.args.text.now c.args.at c.in-Some.ensures.lookup.0.2 c.blank_len.ensures in
+    rw c.at.ensures (lex_at c.args.text.now c.args.at _ e _ c.in-Some-get.ensures.lookup.3 _ c.in-Foreign.ensures)
 
-pub returns : goal.returns
-returns c = record { step = sym (at_drop_all (λ l. lex l c.loop-i.i) _ _ c.loop-i-test.false) ∙ c.loop-i.invariant; part = tt }
+pub returns-clause-step : goal.returns-clause-step
+returns-clause-step c =
+    let e = front_blanks c.args.text.now c.args.at c.in-Some.ensures.lookup.0.2 c.blank_len.ensures in
+    elim c.match-class_of.branch [
+      | in-Open w ↦ rw w.what-is (lex_at c.args.text.now c.args.at _ e _ c.in-Some-get.ensures.lookup.3 _ w.in-Open.ensures)
+      | in-Close w ↦ rw w.what-is (lex_at c.args.text.now c.args.at _ e _ c.in-Some-get.ensures.lookup.3 _ w.in-Close.ensures)
+    ]

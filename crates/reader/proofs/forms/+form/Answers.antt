@@ -1,127 +1,60 @@
-use Rattle.std.proofs.Common.{◌+◌, [], ◌∷◌, length, set, refl, ◌∙◌, arith, length-set}
+use Rattle.std.proofs.Common.{ℕ, ◌+◌, ◌≤◌, refl, ap, ◌∙◌, arith, rules, Err}
 use Rattle.std.proofs.lemmas.Result.{err_from_is_err_and}
-use Rattle.formtable.specs.Kinds.{row}
-use Rattle.reader.specs.Reading.{around, term_at}
-use Rattle.reader.specs.Starts.{begun_with, start_at, none, one, two}
-use Rattle.reader.proofs.Steps.{counted, head_broke, start_broke, followed, started, recap, shut_reads, inner_broke, inner_done, left_broke, right_broke, or_done}
+use Rattle.reader.proofs.Steps.{recap, site, headed, refused, of_end, of_do, of_tau, of_or, of_rec, of_go, no_motion, none, one, one_failed, two, Inside, closed, bounded}
+use Rattle.formtable.specs.Kinds.{record_of}
 use Rattle.reader.proofs.forms.+form.Goals as goal
+use Rattle.reader.proofs.forms.+form.Goals.{in-End, in-Do+in_ok-motion-in-Do+in_ok-form-in-Do, in-Tau+in_ok-form-in-Tau, in-Or+in_ok-right-in-Or+in_ok-form-in-Or, in-Rec+in_ok-name-in-Rec+in_ok-form-in-Rec, in-Go+in_ok-target-in-Go}
 
-pub returns-in_err-shape : goal.returns-in_err-shape
-returns-in_err-shape t c =
-    let e = err_from_is_err_and c.from_residual.result c.from_residual.ensures.1 in
-    let s = c.args.text.now in
-    let xs = c.args.records.now in
-    let q = c.args.from.count in
-    let env = around s c.args.scope in
-    let g = c.args.scope.guard in
-    rw (e.1, e.2) (record { within = tt; reads = head_broke s (length xs) c.args.from.at q env g xs _ c.head.ensures.is c.in_err-shape.was })
+pub returns-in_err-motion-in-Do-clause-reads : goal.returns-in_err-motion-in-Do-clause-reads
+returns-in_err-motion-in-Do-clause-reads t c =
+    let e = err_from_is_err_and c.from_residual-in_err-motion-in-Do.result c.from_residual-in_err-motion-in-Do.ensures.1 in
+    let f = site c.args.cursor.now c.args.place c.args.records.now c.args.scope c.in_ok-shape.shape c.head.new.cursor.at in
+    refused f c.in_ok-shape.ensures.within.0 c.in_ok-shape.ensures.is _ _ _ (e.1 ∙ ap Err e.2) (λ m h. no_motion f m c.in-Do.is c.head.ensures.text c.in_err-motion-in-Do.ensures.is)
 
-pub returns-in_err-begun : goal.returns-in_err-begun
-returns-in_err-begun t c =
-    let e = err_from_is_err_and c.from_residual-in_err-begun.result c.from_residual-in_err-begun.ensures.1 in
-    let s = c.args.text.now in
-    let xs = c.args.records.now in
-    let q = c.args.from.count in
-    let env = around s c.args.scope in
-    let g = c.args.scope.guard in
-    rw (e.1, e.2) (record { within = tt; reads = start_broke s (length xs) c.args.from.at q env g xs c.in_ok-shape.ensures.within.0 c.head.ensures.is c.in_ok-shape.was _ c.in_err-begun.ensures.is })
+pub returns-in_err-form-in-Do-clause-reads : goal.returns-in_err-form-in-Do-clause-reads
+returns-in_err-form-in-Do-clause-reads t c =
+    let e = err_from_is_err_and c.from_residual-in_err-form-in-Do.result c.from_residual-in_err-form-in-Do.ensures.1 in
+    let f = site c.args.cursor.now c.args.place c.args.records.now c.args.scope c.in_ok-shape.shape c.head.new.cursor.at in
+    refused f c.in_ok-shape.ensures.within.0 c.in_ok-shape.ensures.is _ _ _ (e.1 ∙ ap Err e.2)
+    (λ m h. one_failed f m _ _ (of_do f m c.in-Do.is c.head.ensures.text c.in_ok-motion-in-Do.ensures.is) _ _ _
+    (recap _ (c.args.place + 1) c.args.records.now _ _ _ (c.motion.ensures.text ∙ c.head.ensures.text) refl c.guarded.ensures.names c.guarded.ensures.guard c.form.ensures.reads m h) c.in_err-form-in-Do.was)
 
-pub returns-in-Nothing : goal.returns-in-Nothing
-returns-in-Nothing t c =
-    let s = c.args.text.now in
-    let xs = c.args.records.now in
-    let q = c.args.from.count in
-    let env = around s c.args.scope in
-    let g = c.args.scope.guard in
-    let nd = c.in_ok-begun.begun.line in
-    let a = c.in_ok-begun.begun.at in
-    let long = length-set xs q nd in
-    let is = followed s (start_at s q env g c.in_ok-shape.next c.in_ok-shape.shape) c.in_ok-begun.begun _ c.in_ok-begun.ensures.is c.in-Nothing.is in
-    record {
-      within = counted _ q (q + 1) (length xs) c.shut.ensures.same (omega arith) (omega (arith, c.in_ok-shape.ensures.within.0)) (omega (arith, c.in_ok-shape.ensures.within.1));
-      reads = started s (length xs) c.args.from.at q env g xs c.in_ok-shape.ensures.within.0 c.head.ensures.is c.in_ok-shape.was (begun_with nd a none) _ _ is (λ m h. shut_reads s q xs a (q + 1) (nd ∷ []) _ _ c.shut.ensures.is refl refl);
-    }
+pub returns-clause-reads : goal.returns-clause-reads
+returns-clause-reads t c =
+    let f = site c.args.cursor.now c.args.place c.args.records.now c.args.scope c.in_ok-shape.shape c.head.new.cursor.at in
+    let i : (m : ℕ) → 64 ≤ m + (c.args.place + 1) → Inside f m (record_of c.match-shape.said.0) c.match-shape.said.1 c.match-shape.cursor c.match-shape.records =
+    λ m h. elim c.match-shape.branch [
+      | in-End w ↦ rw (w.said-is, w.cursor-is, w.records-is) (none f m c.head.ensures.text (of_end f m w.in-End.is))
+      | in-Do+in_ok-motion-in-Do+in_ok-form-in-Do w ↦
+          let s = w.motion.ensures.text ∙ c.head.ensures.text in
+          rw (w.said-is, w.cursor-is, w.records-is) (one f m _ _ (of_do f m w.in-Do.is c.head.ensures.text w.in_ok-motion-in-Do.ensures.is) _ _ _
+          (recap _ (c.args.place + 1) c.args.records.now _ _ _ s refl w.guarded.ensures.names w.guarded.ensures.guard w.form.ensures.reads m h) w.in_ok-form-in-Do.was (w.form.ensures.text ∙ s))
+      | in-Tau+in_ok-form-in-Tau w ↦
+          rw (w.said-is, w.cursor-is, w.records-is) (one f m _ _ (of_tau f m w.in-Tau.is) _ _ _
+          (recap _ (c.args.place + 1) c.args.records.now _ _ _ c.head.ensures.text refl refl refl w.form-in-Tau.ensures.reads m h) w.in_ok-form-in-Tau.was (w.form-in-Tau.ensures.text ∙ c.head.ensures.text))
+      | in-Or+in_ok-right-in-Or+in_ok-form-in-Or w ↦
+          let s = w.form-in-Or.ensures.text ∙ c.head.ensures.text in
+          rw (w.said-is, w.cursor-is, w.records-is) (two f m (of_or f m w.in-Or.is) _ _ _
+          (recap _ (c.args.place + 1) c.args.records.now _ _ _ c.head.ensures.text refl refl refl w.form-in-Or.ensures.reads m h) w.in_ok-right-in-Or.was _ _ _
+          (recap _ _ w.form-in-Or.new.records _ _ _ s w.form-in-Or.auto.records refl refl w.form-in-Or-2.ensures.reads m (omega (arith, h, w.in_ok-right-in-Or.ensures.within.0))) w.in_ok-form-in-Or.was (w.form-in-Or-2.ensures.text ∙ s))
+      | in-Rec+in_ok-name-in-Rec+in_ok-form-in-Rec w ↦
+          let s = w.word.ensures.text ∙ c.head.ensures.text in
+          rw (w.said-is, w.cursor-is, w.records-is) (one f m _ _ (of_rec f m w.in-Rec.is c.head.ensures.text w.in_ok-name-in-Rec.ensures.is) _ _ _
+          (recap _ (c.args.place + 1) c.args.records.now _ _ _ s refl (w.inside.ensures.names ∙ w.binding-rec.ensures) w.inside.ensures.guard w.form-in-Rec.ensures.reads m h) w.in_ok-form-in-Rec.was (w.form-in-Rec.ensures.text ∙ s))
+      | in-Go+in_ok-target-in-Go w ↦
+          rw (w.said-is, w.cursor-is, w.records-is) (none f m (w.target.ensures.text ∙ c.head.ensures.text) (of_go f m w.in-Go.is c.head.ensures.text w.in_ok-target-in-Go.ensures.is))
+    ] in
+    rw c.from.ensures (headed f c.in_ok-shape.ensures.within.0 c.in_ok-shape.ensures.is _ _ _ (λ m h. closed f m _ _ (i m h) c.shut.ensures.is))
 
-pub returns-in_err-past-in-One : goal.returns-in_err-past-in-One
-returns-in_err-past-in-One t c =
-    let e = err_from_is_err_and c.from_residual-in_err-past-in-One.result c.from_residual-in_err-past-in-One.ensures.1 in
-    let s = c.args.text.now in
-    let xs = c.args.records.now in
-    let q = c.args.from.count in
-    let env = around s c.args.scope in
-    let g = c.args.scope.guard in
-    let nd = c.in_ok-begun.begun.line in
-    let a = c.in_ok-begun.begun.at in
-    let long = length-set xs q nd in
-    let is = followed s (start_at s q env g c.in_ok-shape.next c.in_ok-shape.shape) c.in_ok-begun.begun _ c.in_ok-begun.ensures.is c.in-One.is in
-    let inside = c.in-One.inside in
-    rw (e.1, e.2) (record { within = tt; reads = started s (length xs) c.args.from.at q env g xs c.in_ok-shape.ensures.within.0 c.head.ensures.is c.in_ok-shape.was (begun_with nd a (one (around s inside) inside.guard)) _ _ is (λ m h. inner_broke s q xs nd (term_at m s (length xs) a (q + 1) (around s inside) inside.guard) c.form.result c.form.new.records (recap s (length xs) (q + 1) (set xs q nd) c.form.result c.form.new.records long refl refl refl c.form.ensures.reads m h) _ c.in_err-past-in-One.was) })
-
-pub returns-in_ok-past-in-One : goal.returns-in_ok-past-in-One
-returns-in_ok-past-in-One t c =
-    let s = c.args.text.now in
-    let xs = c.args.records.now in
-    let q = c.args.from.count in
-    let env = around s c.args.scope in
-    let g = c.args.scope.guard in
-    let nd = c.in_ok-begun.begun.line in
-    let a = c.in_ok-begun.begun.at in
-    let long = length-set xs q nd in
-    let is = followed s (start_at s q env g c.in_ok-shape.next c.in_ok-shape.shape) c.in_ok-begun.begun _ c.in_ok-begun.ensures.is c.in-One.is in
-    let inside = c.in-One.inside in
-    record {
-      within = counted _ q c.in_ok-past-in-One.past.count (length xs) c.shut-in-One.ensures.same (omega (arith, c.in_ok-past-in-One.ensures.within.0)) c.in_ok-past-in-One.ensures.within.1 (omega (arith, c.in_ok-past-in-One.ensures.within.2, long));
-      reads = started s (length xs) c.args.from.at q env g xs c.in_ok-shape.ensures.within.0 c.head.ensures.is c.in_ok-shape.was (begun_with nd a (one (around s inside) inside.guard)) _ _ is (λ m h. inner_done s q xs nd (term_at m s (length xs) a (q + 1) (around s inside) inside.guard) c.form.result c.form.new.records (recap s (length xs) (q + 1) (set xs q nd) c.form.result c.form.new.records long refl refl refl c.form.ensures.reads m h) c.in_ok-past-in-One.past _ c.in_ok-past-in-One.was c.shut-in-One.ensures.is);
-    }
-
-pub returns-in_err-right-in-Two : goal.returns-in_err-right-in-Two
-returns-in_err-right-in-Two t c =
-    let e = err_from_is_err_and c.from_residual-in_err-right-in-Two.result c.from_residual-in_err-right-in-Two.ensures.1 in
-    let s = c.args.text.now in
-    let xs = c.args.records.now in
-    let q = c.args.from.count in
-    let env = around s c.args.scope in
-    let g = c.args.scope.guard in
-    let nd = c.in_ok-begun.begun.line in
-    let a = c.in_ok-begun.begun.at in
-    let long = length-set xs q nd in
-    let is = followed s (start_at s q env g c.in_ok-shape.next c.in_ok-shape.shape) c.in_ok-begun.begun _ c.in_ok-begun.ensures.is c.in-Two.is in
-    rw (e.1, e.2) (record { within = tt; reads = started s (length xs) c.args.from.at q env g xs c.in_ok-shape.ensures.within.0 c.head.ensures.is c.in_ok-shape.was (begun_with nd a two) _ _ is (λ m h. left_broke s q xs (λ b k. term_at m s (length xs) b k env g) (term_at m s (length xs) a (q + 1) env g) nd c.form-in-Two.result c.form-in-Two.new.records (recap s (length xs) (q + 1) (set xs q nd) c.form-in-Two.result c.form-in-Two.new.records long refl refl refl c.form-in-Two.ensures.reads m h) _ c.in_err-right-in-Two.was) })
-
-pub returns-in_err-end-in-Two : goal.returns-in_err-end-in-Two
-returns-in_err-end-in-Two t c =
-    let e = err_from_is_err_and c.from_residual-in_err-end-in-Two.result c.from_residual-in_err-end-in-Two.ensures.1 in
-    let s = c.args.text.now in
-    let xs = c.args.records.now in
-    let q = c.args.from.count in
-    let env = around s c.args.scope in
-    let g = c.args.scope.guard in
-    let nd = c.in_ok-begun.begun.line in
-    let a = c.in_ok-begun.begun.at in
-    let long = length-set xs q nd in
-    let is = followed s (start_at s q env g c.in_ok-shape.next c.in_ok-shape.shape) c.in_ok-begun.begun _ c.in_ok-begun.ensures.is c.in-Two.is in
-    let right = c.in_ok-right-in-Two.right in
-    let ys = c.form-in-Two.new.records in
-    let vs = set ys q (row 3 right.count) in
-    let wide = length-set ys q (row 3 right.count) ∙ c.form-in-Two.auto.records ∙ long in
-    rw (e.1, e.2) (record { within = tt; reads = started s (length xs) c.args.from.at q env g xs c.in_ok-shape.ensures.within.0 c.head.ensures.is c.in_ok-shape.was (begun_with nd a two) _ _ is (λ m h. right_broke s q xs (λ b k. term_at m s (length xs) b k env g) (term_at m s (length xs) a (q + 1) env g) nd c.form-in-Two.result c.form-in-Two.new.records (recap s (length xs) (q + 1) (set xs q nd) c.form-in-Two.result c.form-in-Two.new.records long refl refl refl c.form-in-Two.ensures.reads m h) right c.in_ok-right-in-Two.was c.form-in-Two-2.result c.form-in-Two-2.new.records (recap s (length xs) right.count vs c.form-in-Two-2.result c.form-in-Two-2.new.records wide refl refl refl c.form-in-Two-2.ensures.reads m (omega (arith, h, c.in_ok-right-in-Two.ensures.within.0))) _ c.in_err-end-in-Two.was) })
-
-pub returns-in_ok-end-in-Two : goal.returns-in_ok-end-in-Two
-returns-in_ok-end-in-Two t c =
-    let s = c.args.text.now in
-    let xs = c.args.records.now in
-    let q = c.args.from.count in
-    let env = around s c.args.scope in
-    let g = c.args.scope.guard in
-    let nd = c.in_ok-begun.begun.line in
-    let a = c.in_ok-begun.begun.at in
-    let long = length-set xs q nd in
-    let is = followed s (start_at s q env g c.in_ok-shape.next c.in_ok-shape.shape) c.in_ok-begun.begun _ c.in_ok-begun.ensures.is c.in-Two.is in
-    let right = c.in_ok-right-in-Two.right in
-    let ys = c.form-in-Two.new.records in
-    let vs = set ys q (row 3 right.count) in
-    let wide = length-set ys q (row 3 right.count) ∙ c.form-in-Two.auto.records ∙ long in
-    record {
-      within = counted _ q c.in_ok-end-in-Two.end.count (length xs) c.shut-in-Two.ensures.same (omega (arith, c.in_ok-end-in-Two.ensures.within.0, c.in_ok-right-in-Two.ensures.within.0)) c.in_ok-end-in-Two.ensures.within.1 (omega (arith, c.in_ok-end-in-Two.ensures.within.2, wide));
-      reads = started s (length xs) c.args.from.at q env g xs c.in_ok-shape.ensures.within.0 c.head.ensures.is c.in_ok-shape.was (begun_with nd a two) _ _ is (λ m h. or_done s q xs (λ b k. term_at m s (length xs) b k env g) (term_at m s (length xs) a (q + 1) env g) nd c.form-in-Two.result c.form-in-Two.new.records (recap s (length xs) (q + 1) (set xs q nd) c.form-in-Two.result c.form-in-Two.new.records long refl refl refl c.form-in-Two.ensures.reads m h) right c.in_ok-right-in-Two.was c.form-in-Two-2.result c.form-in-Two-2.new.records (recap s (length xs) right.count vs c.form-in-Two-2.result c.form-in-Two-2.new.records wide refl refl refl c.form-in-Two-2.ensures.reads m (omega (arith, h, c.in_ok-right-in-Two.ensures.within.0))) c.in_ok-end-in-Two.end _ c.in_ok-end-in-Two.was c.shut-in-Two.ensures.is);
-    }
+pub returns-clause-within : goal.returns-clause-within
+returns-clause-within t c =
+    let h = c.in_ok-shape.ensures.within in
+    bounded _ _ c.shut.result c.shut.ensures.is
+    (elim c.match-shape.branch [
+      | in-End w ↦ rw w.said-is (omega (arith, h), omega (arith, h), omega (arith, h))
+      | in-Do+in_ok-motion-in-Do+in_ok-form-in-Do w ↦ rw w.said-is (search rules)
+      | in-Tau+in_ok-form-in-Tau w ↦ rw w.said-is (search rules)
+      | in-Or+in_ok-right-in-Or+in_ok-form-in-Or w ↦ rw w.said-is (search rules)
+      | in-Rec+in_ok-name-in-Rec+in_ok-form-in-Rec w ↦ rw w.said-is (search rules)
+      | in-Go+in_ok-target-in-Go w ↦ rw w.said-is (omega (arith, h), omega (arith, h), omega (arith, h))
+    ])

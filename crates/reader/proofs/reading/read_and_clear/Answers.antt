@@ -1,7 +1,7 @@
-use Rattle.reader.proofs.Whole.{read_ok}
+use Rattle.std.proofs.Common.{rules}
+use Rattle.reader.proofs.Whole.{told}
 use Rattle.reader.proofs.reading.read_and_clear.Goals as goal
 
-pub returns-in-Ok : goal.returns-in-Ok
-returns-in-Ok c =
-    read_ok c.args.text c.args.records.now c.whole.new.records _ c.if-text-gt-MAX_TEXT.false c.whole.auto.records c.in-Ok.plan
-    c.in-Ok.ensures.reads c.in-Ok.ensures.within c.clear-in-Ok.ensures
+pub returns : goal.returns
+returns c =
+    told c.args.text c.args.records.now _ _ _ _ _ c.whole-read.ensures.reads c.whole-read.ensures.within c.whole-read.auto.records (search rules) c.fill_from.ensures

@@ -1,78 +1,40 @@
-use Rattle.std.proofs.Common.{◌≡◌, length, refl, ap, subst, arith}
+use Rattle.std.proofs.Common.{Err, sym, refl, ap, ◌∙◌, arith}
 use Rattle.std.proofs.lemmas.Result.{err_from_is_err_and}
-use Rattle.reader.specs.Tokens.{PartFrom}
-use Rattle.reader.specs.Reading.{env_of}
-use Rattle.reader.proofs.Steps.{got, failed, recap}
-use Rattle.reader.proofs.Whole.{via, via_err}
+use Rattle.lexer.specs.Lex.{closing}
+use Rattle.reader.specs.Tokens.{next_tok, takes, ends}
+use Rattle.reader.proofs.Steps.{got, failed, chain, broke}
+use Rattle.reader.proofs.Whole.{plans_err, plans_ok, titled}
 use Rattle.reader.proofs.reading.whole.Goals as goal
 
-pub returns-in_err-past : goal.returns-in_err-past
-returns-in_err-past c =
-    let e = err_from_is_err_and c.from_residual-in_err-past.result c.from_residual-in_err-past.ensures.1 in
-    let text = c.args.text in
-    let s = text.now in
-    let xs = c.args.records.now in
-    let w = c.in_ok-name.ensures in
-    let o = c.outermost.result in
-    let read = recap s (length xs) 0 xs c.form.result c.form.new.records refl w.to (ap (λ z. env_of s o.bound z) c.outermost.ensures.0) c.outermost.ensures.1 c.form.ensures.reads 64 (omega arith) in
-    rw (e.1, e.2) (record {
-      within = tt;
-      reads =
-          via _ text xs _ _ c.open.ensures c.in_ok-bracket.was
-          (via _ text xs _ _ c.keyword.ensures c.in_ok-key.was (via _ text xs _ _ refl w.is
-          (via_err _ text xs _ refl (failed _ _ _ _ _ _ read c.in_err-past.was))));
-    })
+pub returns-in_err-count-clause-reads : goal.returns-in_err-count-clause-reads
+returns-in_err-count-clause-reads c =
+    let e = err_from_is_err_and c.from_residual-in_err-count.result c.from_residual-in_err-count.ensures.1 in
+    let p = titled c.args.records.now _ _ _ c.if-text-gt-MAX_TEXT.false c.new-cursor.ensures c.take.ensures.text c.in_ok-take.ensures.is c.take-2.ensures.text c.in_ok-take-2.ensures.is c.word.ensures.text c.in_ok-name.ensures.is c.form.ensures.reads in
+    plans_err _ _ _ _ (e.1 ∙ ap Err e.2) (p.is ∙ broke _ (failed _ _ _ _ _ _ _ p.read c.in_err-count.was))
 
-pub returns-in_err-end : goal.returns-in_err-end
-returns-in_err-end c =
-    let e = err_from_is_err_and c.from_residual-in_err-end.result c.from_residual-in_err-end.ensures.1 in
-    let text = c.args.text in
-    let s = text.now in
-    let xs = c.args.records.now in
-    let w = c.in_ok-name.ensures in
-    let o = c.outermost.result in
-    let read = recap s (length xs) 0 xs c.form.result c.form.new.records refl w.to (ap (λ z. env_of s o.bound z) c.outermost.ensures.0) c.outermost.ensures.1 c.form.ensures.reads 64 (omega arith) in
-    let x = got _ _ _ _ _ c.in_ok-past.past read c.in_ok-past.was in
-    rw (e.1, e.2) (record {
-      within = tt;
-      reads =
-          via _ text xs _ _ c.open.ensures c.in_ok-bracket.was
-          (via _ text xs _ _ c.keyword.ensures c.in_ok-key.was (via _ text xs _ _ refl w.is
-          (via _ text xs _ _ refl x.1 (via_err _ text xs _ c.close.ensures c.in_err-end.was))));
-    })
+pub returns-in_err-take-3-clause-reads : goal.returns-in_err-take-3-clause-reads
+returns-in_err-take-3-clause-reads c =
+    let e = err_from_is_err_and c.from_residual-in_err-take-3.result c.from_residual-in_err-take-3.ensures.1 in
+    let p = titled c.args.records.now _ _ _ c.if-text-gt-MAX_TEXT.false c.new-cursor.ensures c.take.ensures.text c.in_ok-take.ensures.is c.take-2.ensures.text c.in_ok-take-2.ensures.is c.word.ensures.text c.in_ok-name.ensures.is c.form.ensures.reads in
+    let x = got _ _ _ _ _ _ _ p.read c.in_ok-count.was in
+    let closes = c.in_err-take-3.ensures.is ∙ ap (λ z. takes closing (next_tok z.now c.form.new.cursor.at)) (c.form.ensures.text ∙ p.same_text) in
+    plans_err _ _ _ _ (e.1 ∙ ap Err e.2) (p.is ∙ chain _ x.1 (broke _ (sym closes)))
 
-pub returns-in_err-finish : goal.returns-in_err-finish
-returns-in_err-finish c =
+pub returns-in_err-finish-clause-reads : goal.returns-in_err-finish-clause-reads
+returns-in_err-finish-clause-reads c =
     let e = err_from_is_err_and c.from_residual-in_err-finish.result c.from_residual-in_err-finish.ensures.1 in
-    let text = c.args.text in
-    let s = text.now in
-    let xs = c.args.records.now in
-    let w = c.in_ok-name.ensures in
-    let o = c.outermost.result in
-    let read = recap s (length xs) 0 xs c.form.result c.form.new.records refl w.to (ap (λ z. env_of s o.bound z) c.outermost.ensures.0) c.outermost.ensures.1 c.form.ensures.reads 64 (omega arith) in
-    let x = got _ _ _ _ _ c.in_ok-past.past read c.in_ok-past.was in
-    rw (e.1, e.2) (record {
-      within = tt;
-      reads =
-          via _ text xs _ _ c.open.ensures c.in_ok-bracket.was
-          (via _ text xs _ _ c.keyword.ensures c.in_ok-key.was (via _ text xs _ _ refl w.is
-          (via _ text xs _ _ refl x.1 (via _ text xs _ _ c.close.ensures c.in_ok-end.was (via_err _ text xs _ c.finish.ensures c.in_err-finish.was)))));
-    })
+    let p = titled c.args.records.now _ _ _ c.if-text-gt-MAX_TEXT.false c.new-cursor.ensures c.take.ensures.text c.in_ok-take.ensures.is c.take-2.ensures.text c.in_ok-take-2.ensures.is c.word.ensures.text c.in_ok-name.ensures.is c.form.ensures.reads in
+    let x = got _ _ _ _ _ _ _ p.read c.in_ok-count.was in
+    let t = c.form.ensures.text ∙ p.same_text in
+    let closes = c.in_ok-take-3.ensures.is ∙ ap (λ z. takes closing (next_tok z.now c.form.new.cursor.at)) t in
+    let ends = c.in_err-finish.ensures ∙ ap (λ z. ends (next_tok z.now c.take-3.new.self.at)) (c.take-3.ensures.text ∙ t) in
+    plans_err _ _ _ _ (e.1 ∙ ap Err e.2) (p.is ∙ chain _ x.1 (chain _ (sym closes) (broke _ (sym ends))))
 
-pub returns : goal.returns
-returns c =
-    let text = c.args.text in
-    let s = text.now in
-    let xs = c.args.records.now in
-    let w = c.in_ok-name.ensures in
-    let o = c.outermost.result in
-    let read = recap s (length xs) 0 xs c.form.result c.form.new.records refl w.to (ap (λ z. env_of s o.bound z) c.outermost.ensures.0) c.outermost.ensures.1 c.form.ensures.reads 64 (omega arith) in
-    let x = got _ _ _ _ _ c.in_ok-past.past read c.in_ok-past.was in
-    let count : c.in_ok-past.past.count ≡ length x.0 = omega (arith, x.2) in
-    record {
-      within = c.in_ok-past.ensures.within.2;
-      reads =
-          via _ text xs _ _ c.open.ensures c.in_ok-bracket.was
-          (via _ text xs _ _ c.keyword.ensures c.in_ok-key.was (via _ text xs _ _ refl w.is
-          (via _ text xs _ _ refl x.1 (via _ text xs _ _ c.close.ensures c.in_ok-end.was (via _ text xs _ _ c.finish.ensures c.in_ok-finish.was (record { letters = refl; part = subst (λ z. PartFrom text z c.in_ok-name.name.letters) w.from w.part; all = count }, x.3))))));
-    }
+pub returns-clause-reads : goal.returns-clause-reads
+returns-clause-reads c =
+    let p = titled c.args.records.now _ _ _ c.if-text-gt-MAX_TEXT.false c.new-cursor.ensures c.take.ensures.text c.in_ok-take.ensures.is c.take-2.ensures.text c.in_ok-take-2.ensures.is c.word.ensures.text c.in_ok-name.ensures.is c.form.ensures.reads in
+    let x = got _ _ _ _ _ _ _ p.read c.in_ok-count.was in
+    let t = c.form.ensures.text ∙ p.same_text in
+    let closes = c.in_ok-take-3.ensures.is ∙ ap (λ z. takes closing (next_tok z.now c.form.new.cursor.at)) t in
+    let ends = c.in_ok-finish.ensures ∙ ap (λ z. ends (next_tok z.now c.take-3.new.self.at)) (c.take-3.ensures.text ∙ t) in
+    plans_ok _ _ _ _ _ (record { letters = refl; part = p.part; all = omega (arith, x.2) }) x.3 (p.is ∙ chain _ x.1 (chain _ (sym closes) (chain _ (sym ends) refl)))

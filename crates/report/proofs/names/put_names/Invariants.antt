@@ -1,8 +1,8 @@
-use Rattle.std.proofs.Common.{◌≡◌, length, take, Ok}
+use Rattle.std.proofs.Common.{take, Ok}
 use Rattle.std.specs.List.{flat_map}
 use Rattle.report.specs.Lines.{spaced}
-use Rattle.writing.specs.Output.{Put}
+use Rattle.writing.specs.Output.{Writes}
 use Rattle.report.proofs.names.put_names.Given as goal
 
-abbrev pub invariant-loop-m : goal.invariant-loop-m
-invariant-loop-m l = (length l.out ≡ length l.initial.out) × Put l.initial.out l.start (flat_map spaced (take l.m-index l.motions)) l.out (Ok l.at)
+abbrev pub invariant-loop-motion : goal.invariant-loop-motion
+invariant-loop-motion l = Writes l.fn.to (flat_map spaced (take l.motion-index l.motions)) (Ok tt) l.to

@@ -1,9 +1,6 @@
-use Rattle.std.proofs.Common.{◌≡◌, ◌≤◌}
-use Rattle.reader.specs.Reading.{lookup, env_of, around}
+use Rattle.std.proofs.Common.{◌≡◌}
+use Rattle.reader.specs.Reading.{lookup, recs_at, around}
 use Rattle.reader.proofs.scope.Scope.find.Given as goal
 
-abbrev pub invariant-loop-i : goal.invariant-loop-i
-invariant-loop-i l = (l.i ≤ 64) × (lookup (around l.text l.self) l.name ≡ lookup (env_of l.text l.self.bound l.i) l.name)
-
-abbrev pub decreases-loop-i : goal.decreases-loop-i
-decreases-loop-i l = l.i
+abbrev pub invariant-loop-next : goal.invariant-loop-next
+invariant-loop-next l = lookup (recs_at l.next) l.name ≡ lookup (around l.self) l.name
