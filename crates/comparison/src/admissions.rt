@@ -1,9 +1,10 @@
 // Plans that ask for admission, and what the gate answers.
-use crate::numbers::Numbers;
-use crate::reading::{certificate, good_table};
-use crate::table::Table;
+ghost use Rattle.std.specs.Prelude.{ℕ, List};
+ghost use Rattle.cases.specs.Reading.{ReadsList, ReadsCertified};
+
+use anyhow::anyhow;
+use cases::{Numbers, RawTable, Table, Written};
 use certificate::Row;
-use common::Numbered;
 use gate::check;
 use std::alloc::Global;
 
@@ -15,13 +16,28 @@ pub struct Admission {
     pub rows: Vec<Row>,
 }
 
-impl Admission {
-    // Reads PLAN PERMIT CERTIFICATE.
-    pub(crate) fn read(heap: Global, numbers: &mut Numbers) -> anyhow::Result<Admission> {
-        let plan = good_table(heap, numbers)?;
-        let permit = good_table(heap, numbers)?;
-        let rows = certificate(heap, numbers)?;
-        Ok(Admission { plan, permit, rows })
+// A table that passes vetting.
+fn good_table(numbers: &mut Numbers) -> anyhow::Result<Table> {
+    RawTable::read(numbers)?
+        .vet()
+        .map_err(|_| anyhow!("a table is refused"))
+}
+
+// PLAN PERMIT CERTIFICATE
+impl Written for Admission {
+    type Fault = anyhow::Error;
+
+    ghost Reads = { λ old x new. (mid : List ℕ) × ReadsList ReadsCertified mid x.rows.items new };
+
+    // an error here is only text, which says nothing of the numbers
+    ghost Lacks = { λ _ _. Unit {0} };
+
+    fn read(numbers: &mut Numbers) -> anyhow::Result<Admission> {
+        Ok(Admission {
+            plan: good_table(numbers)?,
+            permit: good_table(numbers)?,
+            rows: Vec::read(numbers)?,
+        })
     }
 }
 
@@ -34,16 +50,12 @@ pub(crate) fn judged(
 ) -> anyhow::Result<String> {
     match check(plan, permit, rows) {
         Ok(()) => Ok(String::from_str(heap, "accepted")?),
-        Err(at) => {
-            let number = at.fault.number();
-            let place = at.place;
-            Ok(format!(in heap; "refused {number} {place}")?)
-        }
+        Err(at) => Ok(format!(in heap; "refused {at}")?),
     }
 }
 
 // The answer to PLAN PERMIT CERTIFICATE.
 pub(crate) fn gated(heap: Global, numbers: &mut Numbers) -> anyhow::Result<String> {
-    let asked = Admission::read(heap, numbers)?;
-    judged(heap, &asked.plan, &asked.permit, asked.rows.as_slice())
+    let asked = Admission::read(numbers)?;
+    judged(heap, &asked.plan, &asked.permit, &asked.rows)
 }

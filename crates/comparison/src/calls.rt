@@ -1,8 +1,8 @@
-// The calls of a history, and the replies to them.
-use crate::numbers::Numbers;
+// The calls of a history.
+ghost use Rattle.std.specs.Prelude.{◌≡◌, ℕ, ◌∷◌};
+
 use anyhow::anyhow;
-use std::alloc::Global;
-use std::fmt;
+use cases::{Numbers, Written};
 
 // One of the six calls: admit names the admission, done and failed the slip, by its place among those that are out.
 #[derive(Clone, Copy)]
@@ -15,6 +15,23 @@ pub enum Call {
     Rest,
 }
 
+// CALL with its ARGUMENT
+impl TryFrom<(u8, u8)> for Call {
+    type Error = anyhow::Error;
+
+    fn try_from(written: (u8, u8)) -> anyhow::Result<Call> {
+        match written {
+            (0, which) => Ok(Call::Admit(which as usize)),
+            (1, _) => Ok(Call::Start),
+            (2, motion) => Ok(Call::Release(motion)),
+            (3, which) => Ok(Call::Done(which as usize)),
+            (4, which) => Ok(Call::Failed(which as usize)),
+            (5, _) => Ok(Call::Rest),
+            _ => Err(anyhow!("no such call")),
+        }
+    }
+}
+
 // A call on one of the controllers.
 #[derive(Clone, Copy)]
 pub struct Turn {
@@ -22,54 +39,20 @@ pub struct Turn {
     pub call: Call,
 }
 
-impl Turn {
-    // Reads CALL CONTROLLER ARGUMENT.
+// CALL CONTROLLER ARGUMENT
+impl Written for Turn {
+    type Fault = anyhow::Error;
+
+    ghost Reads = { λ old x new. (kind : ℕ) × (argument : ℕ) × (old ≡ kind ∷ x.who ∷ argument ∷ new) };
+
+    // an error here is only text, which says nothing of the numbers
+    ghost Lacks = { λ _ _. Unit {0} };
+
     fn read(numbers: &mut Numbers) -> anyhow::Result<Turn> {
-        let kind = numbers.byte()?;
-        let who = numbers.place()?;
-        let argument = numbers.byte()?;
-        let call = match kind {
-            0 => Call::Admit(argument as usize),
-            1 => Call::Start,
-            2 => Call::Release(argument),
-            3 => Call::Done(argument as usize),
-            4 => Call::Failed(argument as usize),
-            5 => Call::Rest,
-            _ => return Err(anyhow!("no such call")),
-        };
+        let kind = u8::read(numbers)?;
+        let who = u16::read(numbers)? as usize;
+        let argument = u8::read(numbers)?;
+        let call = Call::try_from((kind, argument))?;
         Ok(Turn { who, call })
-    }
-}
-
-// Reads CALLS (CALL CONTROLLER ARGUMENT)...
-pub(crate) fn turns(heap: Global, numbers: &mut Numbers) -> anyhow::Result<Vec<Turn>> {
-    let len = numbers.place()?;
-    let mut all = Vec::new(heap);
-    for _i in 0..len {
-        all.push(Turn::read(numbers)?)?;
-    }
-    Ok(all)
-}
-
-// What a call was answered.
-#[derive(Clone, Copy)]
-pub enum Reply {
-    Granted,
-    // Granted, with a slip of this number.
-    Slip(u32),
-    // Denied, by this number and at this place.
-    Denied(u8, usize),
-    // There is no such controller, admission or slip, or no room to keep a slip.
-    Impossible,
-}
-
-impl fmt::Display for Reply {
-    fn fmt<W: fmt::Write>(&self, f: &mut fmt::Formatter<W>) -> fmt::Result {
-        match *self {
-            Reply::Granted => write!(f, "ok"),
-            Reply::Slip(number) => write!(f, "slip {number}"),
-            Reply::Denied(number, place) => write!(f, "no {number} {place}"),
-            Reply::Impossible => write!(f, "impossible"),
-        }
     }
 }

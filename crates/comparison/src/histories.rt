@@ -1,77 +1,58 @@
 // What controllers answer to a list of calls.
 use crate::admissions::Admission;
-use crate::calls::{Call, Reply, Turn, turns};
-use crate::numbers::Numbers;
-use common::{Located, Numbered};
-use controller::{AdmitFault, Controller, DriverFault, Slip};
+use crate::calls::{Call, Turn};
+use crate::replies::{Denial, Grant, Reply};
+use cases::{Numbers, Written};
+use controller::{Controller, DriverFault, Slip};
 use std::alloc::{AllocFailed, Global};
 
-fn plain(r: Result<(), DriverFault>) -> Reply {
-    match r {
-        Ok(()) => Reply::Granted,
-        Err(fault) => Reply::Denied(fault.number(), 0),
-    }
-}
-
-fn placed(r: Result<(), Located<AdmitFault>>) -> Reply {
-    match r {
-        Ok(()) => Reply::Granted,
-        Err(at) => Reply::Denied(at.fault.number(), at.place),
-    }
-}
-
-// Asks for the admission with this place in the list.
-fn admit(c: &mut Controller, admissions: &[Admission], which: usize) -> Reply {
-    match admissions.get(which) {
-        Some(a) => placed(c.admit(&a.plan, &a.permit, a.rows.as_slice())),
-        None => Reply::Impossible,
-    }
-}
-
 // Asks for a motion, and keeps the slip with those that are out.
-fn release(c: &mut Controller, out: &mut Vec<Slip>, motion: u8) -> Reply {
-    match c.release(motion) {
-        Ok(slip) => {
-            let number = slip.number();
-            match out.push(slip) {
-                Ok(()) => Reply::Slip(number),
-                Err(AllocFailed { value }) => {
-                    let _ = c.done(value);
-                    Reply::Impossible
-                }
-            }
+fn release(c: &mut Controller, out: &mut Vec<Slip>, motion: u8) -> Result<Grant, Denial> {
+    let slip = c.release(motion)?;
+    let number = slip.number();
+    match out.push(slip) {
+        Ok(()) => Ok(Grant::Slip(number)),
+        Err(AllocFailed { value }) => {
+            let _ = c.done(value);
+            Err(Denial::Impossible)
         }
-        Err(fault) => Reply::Denied(fault.number(), 0),
     }
 }
 
-// Hands in the slip with this place among those that are out.
-fn done(c: &mut Controller, out: &mut Vec<Slip>, which: usize) -> Reply {
-    if which < out.len() {
-        plain(c.done(out.remove(which)))
-    } else {
-        Reply::Impossible
+// Hands the slip with this place among those that are out to a call.
+fn hand_in<F: FnOnce(Slip) -> Result<(), DriverFault>>(
+    out: &mut Vec<Slip>,
+    which: usize,
+    call: F,
+) -> Result<(), Denial>
+    requires { F.IsAlwaysCallable call }
+{
+    if which >= out.len() {
+        return Err(Denial::Impossible);
     }
-}
-
-fn failed(c: &mut Controller, out: &mut Vec<Slip>, which: usize) -> Reply {
-    if which < out.len() {
-        plain(c.failed(out.remove(which)))
-    } else {
-        Reply::Impossible
-    }
+    call(out.remove(which))?;
+    Ok(())
 }
 
 // Makes a call.
-fn asked(c: &mut Controller, admissions: &[Admission], out: &mut Vec<Slip>, call: Call) -> Reply {
+fn asked(
+    c: &mut Controller,
+    admissions: &[Admission],
+    out: &mut Vec<Slip>,
+    call: Call,
+) -> Result<Grant, Denial> {
     match call {
-        Call::Admit(which) => admit(c, admissions, which),
-        Call::Start => plain(c.start()),
-        Call::Release(motion) => release(c, out, motion),
-        Call::Done(which) => done(c, out, which),
-        Call::Failed(which) => failed(c, out, which),
-        Call::Rest => plain(c.rest()),
+        Call::Admit(which) => {
+            let a = admissions.get(which).ok_or(Denial::Impossible)?;
+            c.admit(&a.plan, &a.permit, &a.rows)?;
+        }
+        Call::Start => c.start()?,
+        Call::Release(motion) => return release(c, out, motion),
+        Call::Done(which) => hand_in(out, which, |slip| c.done(slip))?,
+        Call::Failed(which) => hand_in(out, which, |slip| c.failed(slip))?,
+        Call::Rest => c.rest()?,
     }
+    Ok(Grant::Plain)
 }
 
 // Makes all calls, with a reply in the place of each.
@@ -83,13 +64,15 @@ fn played(
     replies: &mut [Reply],
 ) {
     for (turn, reply) in turns.iter().zip(replies.iter_mut()) {
-        if turn.who < controllers.len() {
-            *reply = asked(&mut controllers[turn.who], admissions, out, turn.call);
+        if let Some(c) = controllers.get_mut(turn.who) {
+            *reply = Reply(asked(c, admissions, out, turn.call));
         }
     }
 }
 
 // Hands in every slip that is still out.
+// Kept: a `for` over the list would drop the part of it that is left, and a slip that is not spent may not be
+// dropped.
 fn hand_back(c: &mut Controller, mut out: Vec<Slip>) {
     while let Some(slip) = out.pop() {
         let _ = c.done(slip);
@@ -112,21 +95,16 @@ fn shown(heap: Global, replies: &[Reply]) -> anyhow::Result<String> {
         if i > 0 {
             line.push_str(", ")?;
         }
-        let word = format!(in heap; "{reply}")?;
-        line.push_str(word.as_str())?;
+        write!(line, "{reply}")?;
     }
     Ok(line)
 }
 
 // The answer to ADMISSIONS (PLAN PERMIT CERTIFICATE).. CALLS (CALL CONTROLLER ARGUMENT)...
 pub(crate) fn history(heap: Global, numbers: &mut Numbers) -> anyhow::Result<String> {
-    let count = numbers.place()?;
-    let mut admissions = Vec::new(heap);
-    for _i in 0..count {
-        admissions.push(Admission::read(heap, numbers)?)?;
-    }
-    let calls = turns(heap, numbers)?;
-    let mut replies = vec![in heap; Reply::Impossible; calls.len()]?;
-    play(heap, admissions.as_slice(), calls.as_slice(), &mut replies);
-    shown(heap, replies.as_slice())
+    let admissions = Vec::<Admission>::read(numbers)?;
+    let turns = Vec::<Turn>::read(numbers)?;
+    let mut replies = vec![in heap; Reply(Err(Denial::Impossible)); turns.len()]?;
+    play(heap, &admissions, &turns, &mut replies);
+    shown(heap, &replies)
 }

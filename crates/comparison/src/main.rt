@@ -13,19 +13,16 @@
 mod admissions;
 mod calls;
 mod histories;
-mod numbers;
-mod reading;
+mod replies;
 mod searching;
-mod table;
 mod vetting;
 
 use admissions::gated;
 use anyhow::anyhow;
+use cases::{Numbers, answer_lines};
 use histories::history;
-use numbers::Numbers;
-use searching::{Told, searched};
+use searching::{counted, searched, shown};
 use std::alloc::Global;
-use std::io::{BufRead, BufReader, BufWriter, Write};
 use vetting::vetted;
 
 // The answer to a line.
@@ -33,29 +30,18 @@ fn answered(heap: Global, line: &str) -> anyhow::Result<String> {
     let Some((kind, rest)) = line.split_once(' ') else {
         return Err(anyhow!("a line without numbers"));
     };
-    let mut numbers = Numbers::of(heap, rest)?;
+    let mut numbers = Numbers::of::<u64>(heap, rest)?;
+    // Kept: a table of functions would name each word and its function once too, and need all to take the same.
     match kind {
         "vet" => vetted(heap, &mut numbers),
-        "search" => searched(heap, &mut numbers, Told::Motions),
-        "count" => searched(heap, &mut numbers, Told::Count),
+        "search" => searched(heap, &mut numbers, shown),
+        "count" => searched(heap, &mut numbers, counted),
         "gate" => gated(heap, &mut numbers),
         "history" => history(heap, &mut numbers),
         _ => Err(anyhow!("no such kind of case")),
     }
 }
 
-fn run(rt: &HostRuntime) -> anyhow::Result<()> {
-    let heap = rt.alloc();
-    let mut out = BufWriter::new(heap, rt.stdout())?;
-    for line in BufReader::new(heap, rt.stdin())?.lines(heap) {
-        let answer = answered(heap, line?.as_str())?;
-        out.write_all(answer.as_bytes())?;
-        out.write_all(b"\n")?;
-    }
-    out.flush()?;
-    Ok(())
-}
-
 fn main(rt: HostRuntime) -> anyhow::Result<()> {
-    run(&rt)
+    answer_lines(&rt, answered)
 }

@@ -3,90 +3,62 @@
 // table, or 1 RECORDS (KIND ARGUMENT).. for a form table.
 #![tactic(auto)]
 
-mod tables;
-
+use anyhow::anyhow;
+use cases::{LineFault, Numbers, RawTable, Spaced, Written, answer_lines};
 use certificate::Row;
 use common::Numbered;
-use process::Process;
-use search::{Answer, certify};
+use desk::{Found, find};
 use std::alloc::Global;
-use std::io::{BufRead, BufReader, BufWriter, Write};
-use tables::{Cursor, Kind, Tables};
 
-// The motions of an answer, each after a space.
-fn shown(heap: Global, motions: &[u8]) -> anyhow::Result<String> {
-    let mut line = String::from_str(heap, "beyond")?;
-    for m in motions {
-        let word = format!(in heap; " {m}")?;
-        line.push_str(word.as_str())?;
-    }
-    Ok(line)
+// What a line asks for: ROWS MOTIONS PLAN PERMIT.
+#[derive(Drop)]
+struct Case {
+    rows: u16,
+    motions: u16,
+    plan: RawTable,
+    permit: RawTable,
 }
 
-// What the search answers.
-fn searched<P: Process, Q: Process>(
-    heap: Global,
-    plan: &P,
-    permit: &Q,
-    rows: usize,
-    motions: usize,
-) -> anyhow::Result<String> {
-    let mut row_list = vec![in heap; Row::empty(); rows]?;
-    let mut motion_list = vec![in heap; 0u8; motions]?;
-    match certify(plan, permit, &mut row_list, &mut motion_list) {
-        Ok(Answer::Within(count)) => Ok(format!(in heap; "within {count}")?),
-        Ok(Answer::Beyond(count)) => shown(heap, motion_list.get(0..count).unwrap_or(b"")),
-        Err(fault) => {
-            let number = fault.number();
-            Ok(format!(in heap; "refused {number}")?)
-        }
+impl Case {
+    fn read(numbers: &mut Numbers) -> Result<Case, LineFault> {
+        Ok(Case {
+            rows: u16::read(numbers)?,
+            motions: u16::read(numbers)?,
+            plan: RawTable::read(numbers)?,
+            permit: RawTable::read(numbers)?,
+        })
     }
 }
 
-// What vetting the permit or the search answers.
-fn against<P: Process>(
-    heap: Global,
-    plan: &P,
-    permit: &Tables,
-    kind: Kind,
-    rows: usize,
-    motions: usize,
-) -> anyhow::Result<String> {
-    match kind {
-        Kind::Rows => searched(heap, plan, &permit.rows, rows, motions),
-        Kind::Forms => searched(heap, plan, &permit.forms, rows, motions),
-        Kind::Refused(number) => Ok(format!(in heap; "permit {number}")?),
+// How a line that cannot be read is told: no width is told here.
+fn told(fault: LineFault) -> anyhow::Error {
+    match fault {
+        LineFault::TooWide(_) => anyhow!("a number is too large"),
+        LineFault::Missing | LineFault::NoMemory => anyhow::Error::from(fault),
     }
 }
 
 // The answer to a line.
 fn answered(heap: Global, line: &str) -> anyhow::Result<String> {
-    let mut numbers = Cursor::of(heap, line)?;
-    let rows = numbers.take()? as usize;
-    let motions = numbers.take()? as usize;
-    let mut plan = Tables::new();
-    let plan_kind = plan.read(heap, &mut numbers)?;
-    let mut permit = Tables::new();
-    let kind = permit.read(heap, &mut numbers)?;
-    match plan_kind {
-        Kind::Rows => against(heap, &plan.rows, &permit, kind, rows, motions),
-        Kind::Forms => against(heap, &plan.forms, &permit, kind, rows, motions),
-        Kind::Refused(number) => Ok(format!(in heap; "plan {number}")?),
+    let mut numbers = Numbers::of::<u16>(heap, line)?;
+    let case = Case::read(&mut numbers).map_err(told)?;
+    let plan = match case.plan.vet() {
+        Ok(table) => table,
+        Err(refused) => return Ok(format!(in heap; "plan {}", refused.number)?),
+    };
+    let permit = match case.permit.vet() {
+        Ok(table) => table,
+        Err(refused) => return Ok(format!(in heap; "permit {}", refused.number)?),
+    };
+    let mut rows = vec![in heap; Row::empty(); case.rows as usize]?;
+    let mut motions = vec![in heap; 0u8; case.motions as usize]?;
+    match find(&plan, &permit, &mut rows, &mut motions) {
+        Ok(Found::Within(rows)) => Ok(format!(in heap; "within {}", rows.len())?),
+        Ok(Found::Beyond(motions)) => Ok(format!(in heap; "beyond{}", Spaced(motions))?),
+        Err(fault) => Ok(format!(in heap; "refused {}", fault.number())?),
     }
-}
-
-fn run(rt: &HostRuntime) -> anyhow::Result<()> {
-    let heap = rt.alloc();
-    let mut out = BufWriter::new(heap, rt.stdout())?;
-    for line in BufReader::new(heap, rt.stdin())?.lines(heap) {
-        let answer = answered(heap, line?.as_str())?;
-        out.write_all(answer.as_bytes())?;
-        out.write_all(b"\n")?;
-    }
-    out.flush()?;
-    Ok(())
 }
 
 fn main(rt: HostRuntime) -> anyhow::Result<()> {
-    run(&rt)
+    answer_lines(&rt, answered)
 }

@@ -1,107 +1,99 @@
 // drive: one task from beginning to end, one line a step.
 #![tactic(auto)]
 
-use motions::name_of;
+use common::Numbered;
+use motions::Named;
+use search::Answer;
 use std::fmt;
-use task::{Asked, Finding, Reply, Step, one_task};
+use task::{Asked, Finding, Made, Reply, one_task};
 
-// A motion, shown by its name.
+// What was asked, in words.
 #[derive(Clone, Copy)]
-struct Named {
-    motion: u8,
-}
+struct Call(Asked);
 
-impl fmt::Display for Named {
+impl fmt::Display for Call {
     fn fmt<W: fmt::Write>(&self, f: &mut fmt::Formatter<W>) -> fmt::Result {
-        for b in name_of(self.motion).unwrap_or(b"unknown") {
-            let letter = *b as char;
-            write!(f, "{letter}")?;
-        }
-        Ok(())
-    }
-}
-
-// What was asked.
-fn show_asked(rt: &HostRuntime, asked: Asked) -> anyhow::Result<()> {
-    match asked {
-        Asked::AdmitFirst => print!(rt; "admit first: ")?,
-        Asked::AdmitSecond => print!(rt; "admit second: ")?,
-        Asked::Start => print!(rt; "start: ")?,
-        Asked::Release(motion) => {
-            let named = Named { motion };
-            print!(rt; "release {named}: ")?
-        }
-        Asked::Done(number) => print!(rt; "done slip {number}: ")?,
-        Asked::Failed(number) => print!(rt; "failed slip {number}: ")?,
-        Asked::Rest => print!(rt; "rest: ")?,
-    }
-    Ok(())
-}
-
-// What was answered; slips are numbered from 1 on.
-fn show_reply(rt: &HostRuntime, reply: Reply) -> anyhow::Result<()> {
-    match reply {
-        Reply::Granted(0) => println!(rt; "granted")?,
-        Reply::Granted(number) => println!(rt; "granted, slip {number}")?,
-        Reply::Denied(number, _) => println!(rt; "denied {number}")?,
-    }
-    Ok(())
-}
-
-// The steps that were made, in order.
-fn show_steps(rt: &HostRuntime, steps: &[Step]) -> anyhow::Result<()> {
-    for step in steps {
-        if let Step::Made(asked, reply) = *step {
-            show_asked(rt, asked)?;
-            show_reply(rt, reply)?;
+        match self.0 {
+            Asked::AdmitFirst => write!(f, "admit first"),
+            Asked::AdmitSecond => write!(f, "admit second"),
+            Asked::Start => write!(f, "start"),
+            Asked::Release(motion) => write!(f, "release {}", Named { motion }),
+            Asked::Done(number) => write!(f, "done slip {number}"),
+            Asked::Failed(number) => write!(f, "failed slip {number}"),
+            Asked::Rest => write!(f, "rest"),
         }
     }
-    Ok(())
 }
 
-// The first so many motions, by name.
-fn show_motions(rt: &HostRuntime, motions: &[u8], count: usize) -> anyhow::Result<()> {
-    for motion in motions.iter().take(count) {
-        let named = Named { motion: *motion };
-        print!(rt; " {named}")?;
+// What was answered, in words.
+#[derive(Clone, Copy)]
+struct Told(Reply);
+
+impl fmt::Display for Told {
+    fn fmt<W: fmt::Write>(&self, f: &mut fmt::Formatter<W>) -> fmt::Result {
+        match self.0 {
+            Ok(None) => write!(f, "granted"),
+            Ok(Some(number)) => write!(f, "granted, slip {number}"),
+            Err(at) => write!(f, "denied {}", at.fault.number()),
+        }
     }
-    println!(rt; "")?;
-    Ok(())
 }
 
-// What was found of a plan.
-fn show_finding(
-    rt: &HostRuntime,
-    plan: &str,
+// What was found of a plan, in words; the motions are those that the permit lacks.
+#[derive(Clone, Copy)]
+struct Found<'a> {
+    plan: &'a str,
     finding: Finding,
-    motions: &[u8],
-) -> anyhow::Result<()> {
-    match finding {
-        Finding::Read(count) => println!(rt; "read {plan}: {count} records")?,
-        Finding::Vetted => println!(rt; "vet {plan}: passed")?,
-        Finding::Within(count) => println!(rt; "search {plan}: within, {count} rows")?,
-        Finding::Beyond(count) => {
-            print!(rt; "search {plan}: beyond,")?;
-            show_motions(rt, motions, count)?;
-        }
-        Finding::Refused(number) => println!(rt; "{plan}: refused {number}")?,
-    }
-    Ok(())
+    motions: &'a [u8],
 }
 
+impl<'a> fmt::Display for Found<'a> {
+    fn fmt<W: fmt::Write>(&self, f: &mut fmt::Formatter<W>) -> fmt::Result {
+        let plan = self.plan;
+        match self.finding {
+            Finding::Read(count) => write!(f, "read {plan}: {count} records"),
+            Finding::Vetted => write!(f, "vet {plan}: passed"),
+            Finding::Searched(Answer::Within(count)) => {
+                write!(f, "search {plan}: within, {count} rows")
+            }
+            Finding::Searched(Answer::Beyond(count)) => {
+                write!(f, "search {plan}: beyond,")?;
+                for &motion in self.motions.iter().take(count) {
+                    write!(f, " {}", Named { motion })?;
+                }
+                Ok(())
+            }
+        }
+    }
+}
+
+// The findings on a plan, one a line.
 fn show_findings(
-    rt: &HostRuntime,
+    rt: &impl Print,
     plan: &str,
     findings: &[Finding],
     motions: &[u8],
 ) -> anyhow::Result<()> {
-    for finding in findings {
-        show_finding(rt, plan, *finding, motions)?;
+    for &finding in findings {
+        let found = Found {
+            plan,
+            finding,
+            motions,
+        };
+        println!(rt; "{found}")?;
     }
     Ok(())
 }
 
-fn run(rt: &HostRuntime) -> anyhow::Result<()> {
+// The steps that were made, one a line.
+fn show_steps(rt: &impl Print, steps: &[Option<Made>]) -> anyhow::Result<()> {
+    for made in steps.iter().flatten() {
+        println!(rt; "{}: {}", Call(made.asked), Told(made.reply))?;
+    }
+    Ok(())
+}
+
+fn run(rt: &impl Print) -> anyhow::Result<()> {
     let done = one_task();
     show_findings(rt, "first", &done.first, &done.motions)?;
     show_steps(rt, &done.first_steps)?;

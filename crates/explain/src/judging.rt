@@ -1,152 +1,88 @@
 // Reading a plan, searching it, and saying what came of it.
-use crate::wording::rule;
-use anyhow::anyhow;
+use crate::showing::{Allowed, Names, Printed};
+use crate::wording::Rule;
 use certificate::Row;
-use common::Numbered;
-use formtable::{FormTable, Record};
-use hints::{allowed_after, line_around, position_of, token_len};
+use common::{Located, Numbered};
+use desk::{Found, Plan, find, plan_of};
+use hints::{Spot, allowed_after};
 use lexer::TextFault;
-use motions::name_of;
+use motions::Named;
 use process::Process;
-use reader::read;
-use search::{Answer, certify};
+use std::io;
 
-// The length of the lists for records, rows and motions.
+// The length of the lists for rows and motions.
 const LIST: usize = 1_024;
 
-// The name of a motion, after a space.
-fn show_motion(rt: &HostRuntime, motion: u8) -> anyhow::Result<()> {
-    print!(rt; " ")?;
-    show_bytes(rt, name_of(motion).unwrap_or(b"unknown"))
-}
-
-// The names of motions, each after a space.
-fn show_motions(rt: &HostRuntime, motions: &[u8]) -> anyhow::Result<()> {
-    for m in motions {
-        show_motion(rt, *m)?;
-    }
-    Ok(())
-}
-
-// Bytes as they are printed; what cannot be printed is a question mark.
-fn show_bytes(rt: &HostRuntime, bytes: &[u8]) -> anyhow::Result<()> {
-    for b in bytes {
-        let c = match *b as char {
-            ' '..='~' => *b as char,
-            _ => '?',
-        };
-        print!(rt; "{c}")?;
-    }
-    Ok(())
-}
-
-// So many copies of a character.
-fn show_many(rt: &HostRuntime, c: char, count: usize) -> anyhow::Result<()> {
-    for _i in 0..count {
-        print!(rt; "{c}")?;
-    }
-    Ok(())
-}
-
-// The line around a place, and marks under the token there.
-fn show_place(rt: &HostRuntime, text: &[u8], place: usize) -> anyhow::Result<()> {
-    show_bytes(rt, line_around(text, place))?;
-    println!(rt; "")?;
-    show_many(rt, ' ', position_of(text, place).column.saturating_sub(1))?;
-    show_many(rt, '^', token_len(text, place))?;
-    println!(rt; "")?;
-    Ok(())
+// The place in a text, its line, and marks under the token there.
+fn show_place(rt: &impl Print, text: &[u8], place: usize) -> io::Result<()> {
+    let spot = Spot { text, place };
+    let at = spot.position();
+    println!(rt; " at line {}, column {}:", at.line, at.column)?;
+    println!(rt; "{}", Printed(spot.line()))?;
+    let before = at.column.saturating_sub(1);
+    let marks = spot.token_len();
+    println!(rt; "{:before$}{:^>marks$}", "", "")
 }
 
 // A refused text: where, what stands there, and the rule. A text that is too long is at fault as a whole.
-fn tell_refused(
-    rt: &HostRuntime,
-    text: &[u8],
-    fault: TextFault,
-    place: usize,
-) -> anyhow::Result<()> {
-    let number = fault.number();
-    let words = rule(fault, place >= text.len());
-    if let TextFault::TooLong = fault {
-        println!(rt; "refused {number}:\n{words}")?;
-        return Ok(());
+fn tell_refused(rt: &impl Print, text: &[u8], at: Located<TextFault>) -> io::Result<()> {
+    print!(rt; "refused {}", at.fault.number())?;
+    match at.fault {
+        TextFault::TooLong => println!(rt; ":")?,
+        _ => show_place(rt, text, at.place)?,
     }
-    let at = position_of(text, place);
-    let line = at.line;
-    let column = at.column;
-    println!(rt; "refused {number} at line {line}, column {column}:")?;
-    show_place(rt, text, place)?;
-    println!(rt; "{words}")?;
-    Ok(())
-}
-
-// The motions that the permit allows, each after a space.
-fn show_allowed(rt: &HostRuntime, allowed: &[bool]) -> anyhow::Result<()> {
-    let mut motion = 0u8;
-    let mut some = false;
-    for yes in allowed {
-        motion = motion.saturating_add(1);
-        if *yes {
-            some = true;
-            show_motion(rt, motion)?;
-        }
-    }
-    if !some {
-        print!(rt; " nothing")?;
-    }
-    Ok(())
+    let rule = Rule {
+        fault: at.fault,
+        at_end: at.place >= text.len(),
+    };
+    println!(rt; "{rule}")
 }
 
 // A plan beyond the permit: the order shown, and what the permit allows in place of its last motion.
 fn tell_beyond<Q: Process>(
-    rt: &HostRuntime,
+    rt: &impl Print,
     name: &[u8],
     permit: &Q,
     shown: &[u8],
-) -> anyhow::Result<()> {
+) -> io::Result<()> {
     let Some((last, before)) = shown.split_last() else {
         return Ok(());
     };
-    print!(rt; "plan ")?;
-    show_bytes(rt, name)?;
-    print!(rt; " is beyond the permit. A shortest order that the permit lacks:")?;
-    show_motions(rt, shown)?;
+    println!(rt;
+        "plan {} is beyond the permit. A shortest order that the permit lacks:{}",
+        Printed(name),
+        Names(shown)
+    )?;
     if before.is_empty() {
-        print!(rt; "\nAt the start the permit allows")?;
+        print!(rt; "At the start the permit allows")?;
     } else {
-        print!(rt; "\nAfter")?;
-        show_motions(rt, before)?;
-        print!(rt; " the permit allows")?;
+        print!(rt; "After{} the permit allows", Names(before))?;
     }
-    show_allowed(rt, &allowed_after(permit, before))?;
-    print!(rt; ", and not")?;
-    show_motion(rt, *last)?;
-    println!(rt; ".")?;
-    Ok(())
+    let allowed = allowed_after(permit, before);
+    println!(rt;
+        "{}, and not {}.",
+        Allowed(&allowed),
+        Named { motion: *last }
+    )
 }
 
-// The records of a plan, searched against the permit.
+// A plan, searched against the permit.
 fn tell_search<Q: Process>(
-    rt: &HostRuntime,
-    name: &[u8],
-    raw: &[Record],
+    rt: &(impl Print + AllocGlobal),
+    plan: &Plan<'_>,
     permit: &Q,
 ) -> anyhow::Result<()> {
-    let mut plan = FormTable::new();
-    if plan.vet(raw).is_err() {
-        return Err(anyhow!("a table that was read does not pass vetting"));
-    }
     let mut rows = vec![in rt.alloc(); Row::empty(); LIST]?;
     let mut motions = vec![in rt.alloc(); 0u8; LIST]?;
-    match certify(&plan, permit, &mut rows, &mut motions) {
-        Ok(Answer::Within(count)) => {
-            print!(rt; "plan ")?;
-            show_bytes(rt, name)?;
-            println!(rt; " is within the permit, by a certificate of {count} rows.")?;
+    match find(&plan.table, permit, &mut rows, &mut motions) {
+        Ok(Found::Within(rows)) => {
+            let name = Printed(plan.name);
+            println!(rt;
+                "plan {name} is within the permit, by a certificate of {} rows.",
+                rows.len()
+            )?;
         }
-        Ok(Answer::Beyond(count)) => {
-            tell_beyond(rt, name, permit, motions.get(0..count).unwrap_or(b""))?
-        }
+        Ok(Found::Beyond(motions)) => tell_beyond(rt, plan.name, permit, motions)?,
         Err(fault) => {
             let number = fault.number();
             println!(rt; "refused {number}: the search needs more than {LIST} rows or motions.")?;
@@ -156,13 +92,13 @@ fn tell_search<Q: Process>(
 }
 
 // What is found of a text.
-pub(crate) fn explain<Q: Process>(rt: &HostRuntime, text: &[u8], permit: &Q) -> anyhow::Result<()> {
-    let mut records = vec![in rt.alloc(); Record::EMPTY; LIST]?;
-    match read(text, &mut records) {
-        Ok(plan) => {
-            let raw = records.get(0..plan.count).unwrap_or(&[]);
-            tell_search(rt, plan.name, raw, permit)
-        }
-        Err(at) => tell_refused(rt, text, at.fault, at.place),
+pub(crate) fn explain<Q: Process>(
+    rt: &(impl Print + AllocGlobal),
+    text: &[u8],
+    permit: &Q,
+) -> anyhow::Result<()> {
+    match plan_of(text) {
+        Ok(plan) => tell_search(rt, &plan, permit),
+        Err(at) => Ok(tell_refused(rt, text, at)?),
     }
 }

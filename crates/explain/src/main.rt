@@ -4,6 +4,7 @@
 #![tactic(auto)]
 
 mod judging;
+mod showing;
 mod wording;
 
 use bench::bench_permit;
@@ -16,23 +17,12 @@ const INPUT: u64 = 65_536;
 // No text of a plan has this byte.
 const FORM_FEED: u8 = 12;
 
-// The texts, one after the other.
-fn run(rt: &HostRuntime) -> anyhow::Result<()> {
+fn main(rt: HostRuntime) -> anyhow::Result<()> {
     let mut input = Vec::new(rt.alloc());
     rt.stdin().take(INPUT).read_to_end(&mut input)?;
     let permit = bench_permit();
-    let mut text = Vec::new(rt.alloc());
-    for b in input.as_slice() {
-        if *b == FORM_FEED {
-            explain(rt, text.as_slice(), &permit)?;
-            text.clear();
-        } else {
-            text.push(*b)?;
-        }
+    for text in input.split(|b| *b == FORM_FEED) {
+        explain(&rt, text, &permit)?;
     }
-    explain(rt, text.as_slice(), &permit)
-}
-
-fn main(rt: HostRuntime) -> anyhow::Result<()> {
-    run(&rt)
+    Ok(())
 }

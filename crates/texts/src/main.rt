@@ -3,78 +3,62 @@
 #![tactic(auto)]
 
 use anyhow::anyhow;
-use common::Numbered;
+use cases::answer_lines;
 use formtable::Record;
 use reader::read;
 use std::alloc::Global;
-use std::io::{BufRead, BufReader, BufWriter, Write};
+use std::fmt;
 
-// The text of a case: a bar is a line feed.
-fn text_of(heap: Global, written: &[u8]) -> anyhow::Result<Vec<u8>> {
-    let mut text = Vec::new(heap);
-    for b in written {
-        text.push(if *b == b'|' { b'\n' } else { *b })?;
+// What stands in the list before a text is read.
+const OLD: Record = Record {
+    kind: 9,
+    argument: 9,
+};
+
+// The kinds and arguments of records, each after a space.
+#[derive(Clone, Copy)]
+struct Records<'a>(&'a [Record]);
+
+impl fmt::Display for Records<'_> {
+    fn fmt<W: fmt::Write>(&self, f: &mut fmt::Formatter<W>) -> fmt::Result {
+        for record in self.0 {
+            write!(f, " {} {}", record.kind, record.argument)?;
+        }
+        Ok(())
     }
-    Ok(text)
 }
 
-// The kinds and arguments of the records, each after a space.
-fn add_records(heap: Global, line: &mut Vec<u8>, records: &[Record]) -> anyhow::Result<()> {
-    for r in records {
-        let kind = r.kind;
-        let argument = r.argument;
-        let shown = format!(in heap; " {kind} {argument}")?;
-        line.extend_from_slice(shown.as_bytes())?;
-    }
-    Ok(())
-}
+// A name, byte by byte.
+#[derive(Clone, Copy)]
+struct Name<'a>(&'a [u8]);
 
-// The answer to a text, with a list of so many records.
-fn answer(heap: Global, text: &[u8], length: usize) -> anyhow::Result<Vec<u8>> {
-    let mut records = vec![in heap; Record {
-        kind: 9,
-        argument: 9
-    }; length]?;
-    let mut line = Vec::new(heap);
-    match read(text, &mut records) {
-        Ok(plan) => {
-            let count = plan.count;
-            let shown = format!(in heap; " {count}")?;
-            line.extend_from_slice(plan.name)?;
-            line.extend_from_slice(shown.as_bytes())?;
+impl fmt::Display for Name<'_> {
+    fn fmt<W: fmt::Write>(&self, f: &mut fmt::Formatter<W>) -> fmt::Result {
+        for b in self.0 {
+            write!(f, "{}", *b as char)?;
         }
-        Err(at) => {
-            let number = at.fault.number();
-            let place = at.place;
-            let shown = format!(in heap; "refused {number} {place}")?;
-            line.extend_from_slice(shown.as_bytes())?;
-        }
+        Ok(())
     }
-    add_records(heap, &mut line, records.as_slice())?;
-    Ok(line)
 }
 
 // The answer to a line.
-fn answered(heap: Global, line: &str) -> anyhow::Result<Vec<u8>> {
+fn answered(heap: Global, line: &str) -> anyhow::Result<String> {
     let Some((length, written)) = line.split_once(' ') else {
         return Err(anyhow!("a line without a space"));
     };
-    let text = text_of(heap, written.as_bytes())?;
-    answer(heap, text.as_slice(), length.parse::<u16>()? as usize)
-}
-
-fn run(rt: &HostRuntime) -> anyhow::Result<()> {
-    let heap = rt.alloc();
-    let mut out = BufWriter::new(heap, rt.stdout())?;
-    for line in BufReader::new(heap, rt.stdin())?.lines(heap) {
-        let shown = answered(heap, line?.as_str())?;
-        out.write_all(shown.as_slice())?;
-        out.write_all(b"\n")?;
+    let text = written.replace(heap, '|', "\n")?;
+    let mut records = vec![in heap; OLD; length.parse::<u16>()? as usize]?;
+    match read(text.as_bytes(), &mut records) {
+        Ok(plan) => Ok(format!(in heap;
+            "{} {}{}",
+            Name(plan.name),
+            plan.count,
+            Records(&records)
+        )?),
+        Err(at) => Ok(format!(in heap; "refused {at}{}", Records(&records))?),
     }
-    out.flush()?;
-    Ok(())
 }
 
 fn main(rt: HostRuntime) -> anyhow::Result<()> {
-    run(&rt)
+    answer_lines(&rt, answered)
 }

@@ -1,9 +1,9 @@
 // Vetted tables of either kind, as one process.
-ghost use Rattle.comparison.specs.Tables.{meaning_of};
+ghost use Rattle.cases.specs.Tables.{meaning_of};
 ghost use Rattle.formtable.specs.Table.{contents};
 ghost use Rattle.formtable.specs.Bounds.{vetted_limits};
 ghost use Rattle.rowtable.specs.Tables.{table_limits};
-ghost use Rattle.comparison.specs.declared.table.Table.TheVariants.{Rows, Forms};
+ghost use Rattle.cases.specs.declared.table.Table.TheVariants.{Rows, Forms};
 
 use formtable::FormTable;
 use process::{Move, Process};

@@ -2,8 +2,8 @@
 use Rattle.process.specs.Meaning.{Proc}
 use Rattle.formtable.specs.Table.{meaning as forms_meaning}
 use Rattle.rowtable.specs.Table.{meaning_of as rows_meaning}
-use Rattle.comparison.specs.declared.table.Table.{Table}
-use Rattle.comparison.specs.declared.table.Table.TheVariants.{Rows, Forms}
+use Rattle.cases.specs.declared.table.Table.{Table}
+use Rattle.cases.specs.declared.table.Table.TheVariants.{Rows, Forms}
 
 -- the process that the table inside means
 abbrev pub meaning_of : Table → Proc

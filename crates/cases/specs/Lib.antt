@@ -1,0 +1,5 @@
+pub mod Line
+pub mod Raw
+pub mod Reading
+pub mod Shown
+pub mod Tables

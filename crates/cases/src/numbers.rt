@@ -1,0 +1,154 @@
+// The numbers of a line, and how parts of a case are read from them.
+ghost use Rattle.std.specs.Prelude.{◌≡◌, ℕ, List, IfOk, IfErr, alloc_error};
+ghost use Rattle.cases.specs.declared.numbers.LineFault.TheVariants.{NoMemory};
+ghost use Rattle.cases.specs.Line.{IsLine};
+ghost use Rattle.cases.specs.Shown.{told};
+ghost use Rattle.cases.specs.Reading.{ReadsNumber, Ended, LacksNumber, ReadsList, LacksList};
+
+use std::alloc::{AllocError, Global};
+use std::error::Error;
+use std::fmt;
+use std::marker::Model;
+use std::str::FromStr;
+use std::vec::IntoIter;
+
+// Why a part cannot be read.
+#[derive(Clone, Copy, Debug, PartialEq, Eq)]
+pub enum LineFault {
+    // The line has ended.
+    Missing,
+    // A number has more than so many bits.
+    TooWide(u32),
+    NoMemory,
+}
+
+impl fmt::Display for LineFault {
+    ghost output = { told };
+
+    fn fmt<W: fmt::Write>(&self, f: &mut fmt::Formatter<W>) -> fmt::Result {
+        match self {
+            LineFault::Missing => write!(f, "a number is missing"),
+            LineFault::TooWide(bits) => write!(f, "a number is over {bits} bits"),
+            LineFault::NoMemory => write!(f, "{AllocError}"),
+        }
+    }
+}
+
+impl Error for LineFault {}
+
+impl From<AllocError> for LineFault {
+    ghost from_gives = { λ _ e. e ≡ NoMemory };
+
+    fn from(_error: AllocError) -> LineFault {
+        LineFault::NoMemory
+    }
+}
+
+// The numbers of a line that are left, and the heap for what they write.
+#[derive(Drop)]
+pub struct Numbers {
+    left: IntoIter<u64>,
+    heap: Global,
+}
+
+impl Model for Numbers {
+    ghost use Rattle.std.specs.Prelude.{ℕ, List};
+    ghost use Rattle.std.specs.Vec.Iter.{into_iter_items};
+
+    ghost Value = { List ℕ };
+
+    ghost view = { λ n. into_iter_items n.left };
+}
+
+impl Numbers {
+    // The numbers of a line, each read as an N.
+    pub fn of<N: FromStr + Into<u64>>(heap: Global, line: &str) -> anyhow::Result<Numbers>
+    where
+        N::Err: Error,
+        ensures { IfOk result (IsLine N.from_str_gives N.converts line.now) }
+    {
+        let mut all = Vec::new(heap);
+        for word in line.split_whitespace() {
+            all.push(word.parse::<N>()?.into())?;
+        }
+        Ok(Numbers {
+            left: all.into_iter(),
+            heap,
+        })
+    }
+}
+
+// A part of a case, as a line writes it in numbers.
+pub trait Written {
+    type Fault;
+
+    // the numbers begin with a writing of x, and are the last ones behind it
+    ghost Reads: { List ℕ → Self → List ℕ → Type 0 };
+
+    // the numbers do not begin with any, by this fault
+    ghost Lacks: { List ℕ → Self.Fault → Type 0 };
+
+    fn read(numbers: &mut Numbers) -> Result<Self, Self::Fault>
+        ensures ok { IfOk result (λ x. Reads numbers.old x numbers.new) }
+        ensures err { IfErr result (Lacks numbers.old) };
+}
+
+impl Written for u64 {
+    type Fault = LineFault;
+
+    ghost Reads = { ReadsNumber };
+
+    ghost Lacks = { Ended };
+
+    fn read(numbers: &mut Numbers) -> Result<u64, LineFault> {
+        numbers.left.next().ok_or(LineFault::Missing)
+    }
+}
+
+impl Written for u8 {
+    type Fault = LineFault;
+
+    ghost Reads = { ReadsNumber };
+
+    ghost Lacks = { LacksNumber 8 };
+
+    #[tactic(auto, using(crate::proofs::Lacking::lacks_at_end))]
+    fn read(numbers: &mut Numbers) -> Result<u8, LineFault> {
+        u8::try_from(u64::read(numbers)?).map_err(|_| LineFault::TooWide(u8::BITS))
+    }
+}
+
+impl Written for u16 {
+    type Fault = LineFault;
+
+    ghost Reads = { ReadsNumber };
+
+    ghost Lacks = { LacksNumber 16 };
+
+    #[tactic(auto, using(crate::proofs::Lacking::lacks_at_end))]
+    fn read(numbers: &mut Numbers) -> Result<u16, LineFault> {
+        u16::try_from(u64::read(numbers)?).map_err(|_| LineFault::TooWide(u16::BITS))
+    }
+}
+
+// A list: its length, and its parts.
+impl<T: Written + Drop> Written for Vec<T>
+where
+    T::Fault: From<LineFault> + From<AllocError>,
+{
+    type Fault = T::Fault;
+
+    ghost Reads = { λ old v new. ReadsList T.Reads old v.items new };
+
+    ghost Lacks = { LacksList T.Reads T.Lacks ⟦<T::Fault as From<LineFault>>⟧.from_gives (⟦<T::Fault as From<AllocError>>⟧.from_gives alloc_error) };
+
+    fn read(numbers: &mut Numbers) -> Result<Vec<T>, T::Fault> {
+        let count = u16::read(numbers)?;
+        let mut parts = Vec::with_capacity(numbers.heap, count as usize)?;
+        for _ in 0..count {
+            let part = T::read(numbers)?;
+            parts.push(part).unwrap();
+        }
+        Ok(parts)
+    }
+}
