@@ -9,7 +9,7 @@ use crate::fault::CertificateFault;
 use certificate::{MAX_ROWS, Row, find_row};
 use common::Located;
 use process::{MAX_STATES, Move, Process, StateSet};
-use reach::{Offers, after};
+use reach::{after, offers_of};
 
 // The rows are to certify that every trace of the plan is a trace of the permit.
 #[derive(Drop)]
@@ -91,7 +91,7 @@ impl<'a, P: Process, Q: Process> Claim<'a, P, Q> {
     fn is_covered(&self, row: &Row) -> bool
         ensures { result ≡ covered plain (P.meaning self.now.plan.now) (Q.meaning self.now.permit.now) self.now.rows.now row.now }
     {
-        Offers::of(self.plan, row.state).all(|step| self.is_answered(row.set, step))
+        offers_of(self.plan, row.state).all(|step| self.is_answered(row.set, step))
     }
 
     // The first row with a move that no row answers.

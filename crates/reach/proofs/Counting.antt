@@ -47,7 +47,7 @@ count_more (suc k) S T v h l no' yes' = ⊎_elim (λ g. now (count_more k S T v 
         let one : one_if (has T k) ≡ 1 = subst (λ x. one_if (has T x) ≡ 1) same (ap one_if yes') in
         omega (arith, count_mono k S T (λ u l. h u (le_step l)))
 
-count_le : (k T : ℕ) → count k T ≤ k
+pub count_le : (k T : ℕ) → count k T ≤ k
 unfolding count
 count_le zero T = omega arith
 count_le (suc k) T = omega (arith, most_one (has T k), count_le k T)

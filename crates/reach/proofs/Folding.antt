@@ -14,7 +14,7 @@ use Rattle.process.specs.declared.moves.Move.{Move}
 use Rattle.process.specs.declared.sets.StateSet.{StateSet}
 use Rattle.reach.specs.Reach.{targets, image_to}
 
-or_assoc : (A B C : ℕ) → bit_or (bit_or A B) C ≡ bit_or A (bit_or B C)
+pub or_assoc : (A B C : ℕ) → bit_or (bit_or A B) C ≡ bit_or A (bit_or B C)
 or_assoc A B C =
     ext (bit_or (bit_or A B) C) (bit_or A (bit_or B C))
     (λ t. has_or (bit_or A B) C t ∙ ap (λ x. x || has C t) (has_or A B t) ∙ either_assoc (has A t) (has B t) (has C t)

@@ -1,17 +1,21 @@
 -- The moves that a state offers are those of the states that it silently reaches; how a cursor goes through them.
-use Rattle.std.proofs.Common.{◌≡◌, ℕ, zero, suc, ◌+◌, ◌-◌, ◌<◌, ◌≤◌, Bool, true, false, ltb, ◌⊎◌, List, [], ◌∷◌, ◌++◌, sym, refl, ap, ◌∙◌, subst, inl, inr, ⊎_elim, add-one, arith}
+use Rattle.std.proofs.Common.{◌≡◌, ℕ, zero, suc, ◌+◌, ◌-◌, ◌<◌, ◌≤◌, ltb, ◌⊎◌, List, [], ◌∷◌, ◌++◌, length, drop, Some, None, sym, refl, ap, ◌∙◌, subst, ap₂, inl, inr, ⊎_elim, add-one, arith}
 use lib.Bits.{bit_or, or_zero_l}
 use Rattle.std.proofs.lemmas.Bool.{both_ways, cases_lt, lt-ltb, le-ltb, cond-true, cond-false}
-use Rattle.std.specs.List.{All}
+use Rattle.std.specs.List.{All, slice_get}
 use Rattle.std.proofs.lemmas.List.Elements.{All-nil, All-cons}
+use Rattle.std.proofs.lemmas.Option.{slice_get_within, none-some}
 use Rattle.process.proofs.Bits.{pick, only_in, in_only, not_in_empty}
+use Rattle.process.proofs.Giving.{gives, ends}
 use Rattle.process.specs.Meaning.{Proc, HasMove, Steps, Limits}
 use Rattle.process.specs.Runs.{Run, nothing, motion, silent}
 use Rattle.process.specs.Sets.{has, only, single, In}
 use Rattle.process.specs.declared.moves.Move.{Move}
+use Rattle.process.specs.declared.sets.StateSet.{StateSet}
 use Rattle.reach.specs.Laws.{OffersExact}
-use Rattle.reach.specs.Offers.{moves_in, moves_from, offers, IsKnown}
+use Rattle.reach.specs.Offers.{moves_in, moves_from, offers, rest_from, rest, start_of, past_move, past_state, Taken, Fewer, IsKnown, Known}
 use Rattle.reach.specs.Reach.{silent_reach}
+use Rattle.reach.specs.declared.offers.Offers.{Offers}
 use Rattle.reach.proofs.Reaching.{reach_exact, mover}
 
 -- moves of two lists together
@@ -44,6 +48,9 @@ in_sound p S k a u h =
 in_complete : (p : Proc) (S k a u : ℕ) → In S k → Steps p k a u → HasMove (moves_in p S k) a u
 in_complete p S k a u i h =
     pick (has S k) (p.moves k) [] (λ z. HasMove z a u) (λ e. h) (λ e. absurd (both_ways (has S k) e i))
+
+in_beyond : (p : Proc) → Limits p → (S k : ℕ) → p.states ≤ k → moves_in p S k ≡ []
+in_beyond p L S k l = pick (has S k) (p.moves k) [] (λ z. z ≡ []) (λ e. L.none_beyond k l) (λ e. refl)
 
 -- the moves of the states from k on
 
@@ -110,18 +117,6 @@ offers_single p L s = ⊎_elim low high (cases_lt s 64)
         ∙ no_moves (moves_from p (silent_reach p 0) p.states 0) empty
         ∙ sym (no_moves (offers p s) (nowhere l))
 
--- where no move is left of the state at hand, the next state s is at hand, with its moves if the set has it
-pub goes_on : (p : Proc) (S k n s k' n' : ℕ) (b : Bool) (ms ns all : List Move) → ms ≡ [] → 0 < n - k → s ≡ k → n' ≡ n → k' ≡ k + 1
-    → b ≡ has S s → ns ≡ elim b [ true ↦ p.moves s | false ↦ [] ]
-    → ms ++ moves_from p S (n - k) k ≡ all → ns ++ moves_from p S (n' - k') k' ≡ all
-goes_on p S k n s k' n' b ms ns all none l same end next t own inv =
-    let d : suc (n - (k + 1)) ≡ n - k = omega arith in
-    (λ i. (own ∙ ap (λ x. elim x [ true ↦ p.moves s | false ↦ [] ]) t ∙ ap (moves_in p S) same) i
-    ++ moves_from p S (end i - next i) ((next ∙ add-one k) i))
-    ∙ ap (λ m. moves_from p S m k) d
-    ∙ ap (λ xs. xs ++ moves_from p S (n - k) k) (sym none)
-    ∙ inv
-
 -- each move that is offered is known
 pub offers_known : (p : Proc) → Limits p → (s : ℕ) → All (IsKnown p) (offers p s)
 offers_known p L s = each (offers p s) (λ a u h. let r = (offers_exact p L s a u).0 h in (L.targets_inside r.0 a u r.2, L.known_motions r.0 a u r.2))
@@ -130,20 +125,90 @@ offers_known p L s = each (offers p s) (λ a u h. let r = (offers_exact p L s a 
     each [] h = All-nil (IsKnown p)
     each (m ∷ ms) h = All-cons (IsKnown p) m ms (h m.motion m.target (inl (refl, refl))) (each ms (λ a u i. h a u (inr i)))
 
--- where no move is left of the state at hand, and all states are yet to come, those are the offers of s, which are exact and known
-pub all_left : (p : Proc) → Limits p → (s R n : ℕ) (ms : List Move) → n ≡ p.states → ms ≡ p.moves n → R ≡ silent_reach p (single s)
-    → record {
-      value : ms ++ moves_from p R (n - 0) 0 ≡ offers p s;
-      exact : OffersExact p s (ms ++ moves_from p R (n - 0) 0);
-      known : All (IsKnown p) (ms ++ moves_from p R (n - 0) 0);
-    }
-all_left p L s R n ms at e r =
-    record { value = v; exact = subst (OffersExact p s) (sym v) (offers_exact p L s); known = subst (All (IsKnown p)) (sym v) (offers_known p L s) }
+-- a cursor before a state has the moves from that state on
+before_state : (p : Proc) → Limits p → (S k : ℕ) → rest_from p S k 0 ≡ moves_from p S (p.states - k) k
+before_state p L S k = by (p.states - k) refl
   where
-    none : ms ≡ []
-    none = e ∙ L.none_beyond n (omega arith)
+    by : (d : ℕ) → p.states - k ≡ d → rest_from p S k 0 ≡ moves_from p S d k
+    by zero e =
+        let l : p.states ≤ k = omega arith in
+        let z : p.states - suc k ≡ 0 = omega arith in
+        ap₂ (λ xs n. xs ++ moves_from p S n (suc k)) (in_beyond p L S k l) z
+    by (suc d) e = let z : p.states - suc k ≡ d = omega arith in ap (λ n. moves_in p S k ++ moves_from p S n (suc k)) z
 
-    v : ms ++ moves_from p R (n - 0) 0 ≡ offers p s
-    v =
-        let z : n - 0 ≡ p.states = omega arith in
-        ap (λ xs. xs ++ moves_from p R (n - 0) 0) none ∙ (λ i. moves_from p (r i) (z i) 0) ∙ offers_single p L s
+-- the moves from the first on are the offers of s
+rest_first : (p : Proc) → Limits p → (s : ℕ) → rest_from p (silent_reach p (single s)) 0 0 ≡ offers p s
+rest_first p L s =
+    before_state p L (silent_reach p (single s)) 0
+    ∙ ap (λ n. moves_from p (silent_reach p (single s)) n 0) none_off
+    ∙ offers_single p L s
+  where
+    none_off : p.states - 0 ≡ p.states
+    none_off = omega arith
+
+-- a move that is there is the first of the rest
+rest_here : (p : Proc) (S k i : ℕ) (m : Move) → Some m ≡ slice_get (moves_in p S k) i → rest_from p S k i ≡ m ∷ rest_from p S k (i + 1)
+rest_here p S k i m e =
+    ap (λ xs. xs ++ moves_from p S (p.states - suc k) (suc k)) (gives (moves_in p S k) i m (sym e))
+
+-- where none is there, the rest is that of the next state
+rest_next : (p : Proc) → Limits p → (S k i : ℕ) → None ≡ slice_get (moves_in p S k) i → rest_from p S k i ≡ rest_from p S (k + 1) 0
+rest_next p L S k i e =
+    ap (λ xs. xs ++ moves_from p S (p.states - suc k) (suc k)) (ends (moves_in p S k) i (sym e))
+    ∙ sym (before_state p L S (suc k))
+    ∙ ap (λ j. rest_from p S j 0) (sym (add-one k))
+
+-- past the last state nothing is left
+rest_end : (p : Proc) → Limits p → (S k i : ℕ) → p.states ≤ k → rest_from p S k i ≡ []
+rest_end p L S k i l =
+    let z : p.states - suc k ≡ 0 = omega arith in
+    ap₂ (λ xs n. drop i xs ++ moves_from p S n (suc k)) (in_beyond p L S k l) z ∙ dropped i
+  where
+    dropped : (i : ℕ) → drop {A = Move} i [] ++ [] ≡ []
+    dropped zero = refl
+    dropped (suc i) = refl
+
+-- the move at a place is one of the list's
+pub nth_has : (ms : List Move) (k : ℕ) (m : Move) → slice_get ms k ≡ Some m → HasMove ms m.motion m.target
+nth_has [] k m e = absurd (none-some m e)
+nth_has (n ∷ ms) zero m e = let q : n ≡ m = cc in inl (ap (λ (x : Move). x.motion) q, ap (λ (x : Move). x.target) q)
+nth_has (n ∷ ms) (suc k) m e = inr (nth_has ms k m e)
+
+-- a move that is there keeps the limits
+here_known : (p : Proc) → Limits p → (S k i : ℕ) (m : Move) → Some m ≡ slice_get (moves_in p S k) i → IsKnown p m
+here_known p L S k i m e =
+    let h = (in_sound p S k m.motion m.target (nth_has (moves_in p S k) i m (sym e))).1 in
+    (L.targets_inside k m.motion m.target h, L.known_motions k m.motion m.target h)
+
+-- its place is below 255
+pub here_place : (p : Proc) → Limits p → (S k i : ℕ) (m : Move) → Some m ≡ slice_get (moves_in p S k) i → i < 255
+here_place p L S k i m e = pick (has S k) (p.moves k) [] (λ z. Some m ≡ slice_get z i → i < 255) (λ _ g. short g) (λ _ g. absurd (none-some m (sym g))) e
+  where
+    short : Some m ≡ slice_get (p.moves k) i → i < 255
+    short g = omega (arith, slice_get_within (p.moves k) i m (sym g), L.short_lists k)
+
+-- the same of a cursor, as the code makes, reads and moves it
+
+pub cursor_of : (p : Proc) → Limits p → (s : ℕ) (set R : StateSet) (c : Offers) → set.bits ≡ single s → R.bits ≡ silent_reach p set.bits → c ≡ start_of R
+    → record { value : rest p c ≡ offers p s; exact : OffersExact p s (rest p c) }
+cursor_of p L s set R c t e q =
+    let v : rest p c ≡ offers p s = ap (rest p) q ∙ ap (λ (S : ℕ). rest_from p S 0 0) (e ∙ ap (silent_reach p) t) ∙ rest_first p L s in
+    record { value = v; exact = subst (OffersExact p s) (sym v) (offers_exact p L s) }
+
+pub cursor_gives : (p : Proc) → Limits p → (c d : Offers) (m : Move) (before : List Move)
+    → rest p c ≡ before → Some m ≡ slice_get (moves_in p c.set.bits c.state) c.at → d ≡ past_move c
+    → record { taken : Taken before (Some m) (rest p d); fewer : Fewer before (Some m) (rest p d); known : Known p (Some m) }
+cursor_gives p L c d m before b e q =
+    let t : before ≡ m ∷ rest p d = sym b ∙ rest_here p c.set.bits c.state c.at m e ∙ ap (λ z. m ∷ rest p z) (sym q) in
+    record { taken = t; fewer = sym (ap length t); known = here_known p L c.set.bits c.state c.at m e }
+
+pub cursor_goes_on : (p : Proc) → Limits p → (c d : Offers) (before : List Move)
+    → rest p c ≡ before → None ≡ slice_get (moves_in p c.set.bits c.state) c.at → d ≡ past_state c → rest p d ≡ before
+cursor_goes_on p L c d before b e q = ap (rest p) q ∙ sym (rest_next p L c.set.bits c.state c.at e) ∙ b
+
+pub cursor_ends : (p : Proc) → Limits p → (c : Offers) (before : List Move) → rest p c ≡ before → p.states ≤ c.state
+    → record { taken : Taken before None (rest p c); fewer : Fewer before None (rest p c); known : Known p None }
+cursor_ends p L c before b l =
+    let z = rest_end p L c.set.bits c.state c.at l in
+    let t = sym b ∙ z in
+    record { taken = (t, z); fewer = ap length t; known = tt }

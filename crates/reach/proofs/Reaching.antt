@@ -1,7 +1,7 @@
 -- The silent reach is what silent steps reach, and the least closed set; After is what a motion leads to from it.
-use Rattle.std.proofs.Common.{◌≡◌, ℕ, zero, suc, ◌<◌, ◌≤◌, Bool, true, false, not, ◌&&◌, ◌⊎◌, List, [], ◌∷◌, ◌++◌, sym, subst, inl, inr, ⊎_elim, arith}
+use Rattle.std.proofs.Common.{◌≡◌, ℕ, zero, suc, ◌^◌, ◌<◌, ◌≤◌, Bool, true, false, not, ◌&&◌, ◌⊎◌, List, [], ◌∷◌, ◌++◌, sym, subst, inl, inr, ⊎_elim, arith}
 use Rattle.std.proofs.lemmas.Bool.{both_ways, cases_lt, and_parts, and_cases, not-true, not-false}
-use Rattle.process.proofs.Bits.{in_or, or_in_left, or_in_right}
+use Rattle.process.proofs.Bits.{in_or, or_in_left, or_in_right, in_below, set_below}
 use Rattle.process.specs.Meaning.{Proc, HasMove, Steps, Limits}
 use Rattle.process.specs.Runs.{Run, nothing, motion, silent}
 use Rattle.process.specs.Sets.{has, In}
@@ -132,6 +132,22 @@ exact_laws p T a R e =
 
 pub after_laws : (p : Proc) → Limits p → (T a : ℕ) → AfterLaws p T a (after p T a)
 after_laws p L T a = exact_laws p T a (after p T a) (after_exact p L T a)
+
+-- sets of states of the process stay such sets
+
+pub reach_below : (p : Proc) → Limits p → (T : ℕ) → T < 2 ^ p.states → silent_reach p T < 2 ^ p.states
+reach_below p L T l = below p.states
+  where
+    below : (k : ℕ) → rounds p T k < 2 ^ p.states
+    below zero = l
+    below (suc k) =
+        set_below (grow p (rounds p T k)) p.states
+        (λ t i. ⊎_elim (λ o. in_below (rounds p T k) p.states t (below k) o) (λ r. L.targets_inside r.0 0 t r.2)
+        (grow_from p (rounds p T k) t i))
+
+pub after_below : (p : Proc) → Limits p → (T a : ℕ) → after p T a < 2 ^ p.states
+after_below p L T a =
+    set_below (after p T a) p.states (λ t i. let r = (after_exact p L T a t).0 i in L.targets_inside r.1 a t r.4)
 
 -- the same of a number that is known to be the silent reach, or After
 

@@ -1,68 +1,81 @@
 // The moves that a state offers, one after the other.
-ghost use Rattle.std.specs.Prelude.{◌≡◌, All};
-ghost use Rattle.std.specs.Iterator.{YieldsFirst, item_count};
+ghost use Rattle.std.specs.Prelude.{◌≡◌, ◌<◌};
+ghost use Rattle.std.specs.List.{slice_get};
 ghost use Rattle.reach.specs.Laws.{OffersExact};
-ghost use Rattle.reach.specs.Offers.{offers as offers_of, IsKnown};
+ghost use Rattle.reach.specs.Offers.{moves_in, offers as offers_of, rest, start_of, past_move, past_state, Taken, Fewer, Known};
 
 use crate::reach::silent_reach;
-use process::{Move, MovesOf, Process, StateSet, moves_of};
-use std::marker::Model;
-use std::ops::Range;
+use process::{Move, Process, StateSet};
 
-// The moves of the states of a set, seen as the list of those that are yet to come: the rest of one state's, then those of the later states.
-#[derive(Drop)]
-pub struct Offers<'a, P: Process> {
-    process: &'a P,
+// A cursor over the moves of a set of states: the state and the move that it is at.
+#[derive(Clone, Copy)]
+pub struct Offers {
     set: StateSet,
-    moves: MovesOf<'a, P>,
-    later: Range<u8>,
+    state: u8,
+    at: u8,
 }
 
-impl<'a, P: Process> Model for Offers<'a, P> {
-    ghost use Rattle.std.specs.Prelude.{List};
-    ghost use Rattle.process.specs.declared.moves.Move.{Move};
-
-    ghost Value = { List Move };
-
-    ghost use Rattle.reach.specs.Offers.{rest};
-
-    ghost view = { rest P.meaning };
-}
-
-impl<'a, P: Process> Offers<'a, P> {
-    // The moves that state s offers; none for a state that does not exist.
-    pub fn of(process: &'a P, s: u8) -> Self
-        ensures value { result ≡ offers_of (P.meaning process.now) s }
-        ensures exact { OffersExact (P.meaning process.now) s result }
-        ensures known { All (IsKnown (P.meaning process.now)) result }
+impl Offers {
+    // Before all moves of the set.
+    fn start(set: StateSet) -> Self
+        ensures { result ≡ start_of set }
     {
-        let states = process.states();
         Offers {
-            process,
-            set: silent_reach(process, StateSet::single(s)),
-            // None as yet: no state has this number.
-            moves: moves_of(process, states),
-            later: 0..states,
+            set,
+            state: 0,
+            at: 0,
         }
     }
-}
 
-impl<'a, P: Process> Iterator for Offers<'a, P> {
-    type Item = Move;
+    // The moves that state s offers; none for a state that does not exist.
+    pub fn of<P: Process>(p: &P, s: u8) -> Self
+        ensures value { rest (P.meaning p.now) result ≡ offers_of (P.meaning p.now) s }
+        ensures exact { OffersExact (P.meaning p.now) s (rest (P.meaning p.now) result) }
+    {
+        Offers::start(silent_reach(p, StateSet::single(s)))
+    }
 
-    ghost next_gives = { YieldsFirst (λ moves. moves) };
+    // The move that the cursor is at, if its state is in the set and has one there.
+    fn here<P: Process>(self, p: &P) -> Option<Move>
+        ensures { result ≡ slice_get (moves_in (P.meaning p.now) self.set.bits self.state) self.at }
+    {
+        if self.set.contains(self.state) {
+            p.move_at(self.state, self.at)
+        } else {
+            None
+        }
+    }
 
-    ghost remaining = { item_count (λ moves. moves) };
+    // Past the move that the cursor is at.
+    fn pass_move(&mut self)
+        requires { self.old.at < 255 }
+        ensures { self.new ≡ past_move self.old }
+    {
+        self.at += 1;
+    }
 
-    fn next(&mut self) -> Option<Move> {
-        loop {
-            if let Some(m) = self.moves.next() {
+    // To the first move of the next state.
+    fn pass_state(&mut self)
+        requires { self.old.state < 64 }
+        ensures { self.new ≡ past_state self.old }
+    {
+        self.state += 1;
+        self.at = 0;
+    }
+
+    // The next move; None exactly when all are given.
+    pub fn next<P: Process>(&mut self, p: &P) -> Option<Move>
+        ensures taken { Taken (rest (P.meaning p.now) self.old) result (rest (P.meaning p.now) self.new) }
+        ensures fewer { Fewer (rest (P.meaning p.now) self.old) result (rest (P.meaning p.now) self.new) }
+        ensures known { Known (P.meaning p.now) result }
+    {
+        while self.state < p.states() {
+            if let Some(m) = self.here(p) {
+                self.pass_move();
                 return Some(m);
             }
-            let s = self.later.next()?;
-            if self.set.contains(s) {
-                self.moves = moves_of(self.process, s);
-            }
+            self.pass_state();
         }
+        None
     }
 }

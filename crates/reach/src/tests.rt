@@ -2,6 +2,7 @@
 ghost use Rattle.reach.specs.Shuttle.{shuttle_meaning};
 ghost use Rattle.std.proofs.Common.{rules};
 
+use crate::offered::offers_of;
 use crate::offers::Offers;
 use crate::reach::{after, silent_reach};
 use process::{Move, Process, StateSet};
@@ -66,7 +67,7 @@ impl<P: Process> Process for Wrapper<P> {
 
 // Does state s offer a move by the motion?
 fn offers_motion<P: Process>(p: &P, s: u8, motion: u8) -> bool {
-    Offers::of(p, s).any(|m| m.motion == motion)
+    offers_of(p, s).any(|m| m.motion == motion)
 }
 
 // What every process with the moves of a Shuttle does.
@@ -95,7 +96,7 @@ fn wrapped(rt: HostRuntime) {
 
 #[test]
 fn in_order(rt: HostRuntime) {
-    let mut moves = Offers::of(&Shuttle, 0);
+    let mut moves = offers_of(&Shuttle, 0);
     assert_eq!(rt;
         moves.next(),
         Some(Move {
@@ -111,4 +112,37 @@ fn in_order(rt: HostRuntime) {
         })
     );
     assert_eq!(rt; moves.next(), None);
+}
+
+// What may be copied, kept and handed to another thread.
+fn free<T: Copy + Send + Sync + 'static>(value: T) -> T {
+    value
+}
+
+#[test]
+fn by_cursor(rt: HostRuntime) {
+    let mut moves = Offers::of(&Shuttle, 0);
+    let mut copied = free(moves);
+    assert_eq!(rt;
+        moves.next(&Shuttle),
+        Some(Move {
+            motion: 0,
+            target: 1,
+        })
+    );
+    assert_eq!(rt;
+        moves.next(&Shuttle),
+        Some(Move {
+            motion: 3,
+            target: 0,
+        })
+    );
+    assert_eq!(rt; moves.next(&Shuttle), None);
+    assert_eq!(rt;
+        copied.next(&Shuttle),
+        Some(Move {
+            motion: 0,
+            target: 1,
+        })
+    );
 }

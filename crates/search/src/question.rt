@@ -1,11 +1,11 @@
 // What is asked: where the rule leads along the moves of the plan.
 ghost use Rattle.std.specs.Prelude.{◌≡◌};
 ghost use Rattle.std.specs.Option.{option_map};
-ghost use Rattle.reach.specs.Offers.{offers as offers_of};
+ghost use Rattle.reach.specs.Offers.{offers, rest_of};
 
 use crate::rule::Rule;
 use process::{Move, Process, StateSet};
-use reach::Offers;
+use reach::{OffersOf, offers_of};
 
 // The moves of the plan, followed by the rule.
 #[derive(Clone, Copy)]
@@ -23,10 +23,10 @@ impl<'a, P: Process, F: Rule> Question<'a, P, F> {
     }
 
     // The moves that a row offers, by its state.
-    pub(crate) fn offers(&self, state: u8) -> Offers<'a, P>
-        ensures { result ≡ offers_of (P.meaning self.now.plan.now) state }
+    pub(crate) fn offers(&self, state: u8) -> OffersOf<'a, P>
+        ensures { rest_of P.meaning result ≡ offers (P.meaning self.now.plan.now) state }
     {
-        Offers::of(self.plan, state)
+        offers_of(self.plan, state)
     }
 
     // The set that a move leads to from a row's set, or none.

@@ -1,7 +1,7 @@
-use Rattle.reach.proofs.Offering.{all_left}
+use Rattle.reach.proofs.Offering.{cursor_of}
 use Rattle.reach.proofs.offers.Offers.of.Goals as goal
 
 pub returns : goal.returns
 returns g c =
-    all_left (g.P.Process.meaning c.args.process.now) (g.met.P.Process.limits c.args.process.now) c.args.s c.silent_reach.result.bits
-    c.states-states.result _ c.states-states.ensures c.moves_of.ensures (cc)
+    cursor_of (g.P.Process.meaning c.args.p.now) (g.met.P.Process.limits c.args.p.now) c.args.s c.single.result c.silent_reach.result c.start.result
+    c.single.ensures c.silent_reach.ensures.value c.start.ensures

@@ -1,5 +1,5 @@
 use Rattle.std.proofs.Common.{◌≡◌}
-use Rattle.reach.specs.Offers.{offers}
+use Rattle.reach.specs.Offers.{offers, rest_of}
 use Rattle.search.specs.Listed.{listed, room, Grows}
 use Rattle.search.specs.Rule.{ruled}
 use Rattle.search.specs.Search.{Trial, try_moves}
@@ -12,6 +12,6 @@ invariant-loop-m g l =
     record {
       grows : Grows l.initial.self l.self;
       left :
-          ◌≡◌ {A = Trial} (try_moves E (room l.initial.self) l.i l.row l.m-iterator (listed l.self))
+          ◌≡◌ {A = Trial} (try_moves E (room l.initial.self) l.i l.row (rest_of g.P.Process.meaning l.m-iterator) (listed l.self))
           (try_moves E (room l.initial.self) l.i l.row (offers p l.row.state) (listed l.initial.self));
     }
