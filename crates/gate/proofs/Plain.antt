@@ -16,7 +16,7 @@ use Rattle.gate.proofs.Judging.{refuses_exact}
 use Rattle.gate.proofs.Soundness.{laws_suffice}
 
 -- sets that lie within each other are the same
-same_sets : (S T : ℕ) → Within S T → Within T S → S ≡ T
+pub same_sets : (S T : ℕ) → Within S T → Within T S → S ≡ T
 same_sets S T f g = ext S T (λ t. same_from_decides (has S t) (has T t) (λ e. e, λ e. e) (g t, f t))
 
 -- a set that is not empty and lies within {0} is {0}
