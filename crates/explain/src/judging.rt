@@ -13,28 +13,34 @@ use std::io;
 // The length of the lists for rows and motions.
 const LIST: usize = 1_024;
 
-// The place in a text, its line, and marks under the token there.
-fn show_place(rt: &impl Print, text: &[u8], place: usize) -> io::Result<()> {
-    let spot = Spot { text, place };
-    let at = spot.position();
-    println!(rt; " at line {}, column {}:", at.line, at.column)?;
+// The line around a place, which stands at that column of it, and marks under the token there.
+fn show_line(rt: &impl Print, spot: Spot<'_>, column: usize) -> io::Result<()> {
     println!(rt; "{}", Printed(spot.line()))?;
-    let before = at.column.saturating_sub(1);
+    let before = column.saturating_sub(1);
     let marks = spot.token_len();
     println!(rt; "{:before$}{:^>marks$}", "", "")
 }
 
 // A refused text: where, what stands there, and the rule. A text that is too long is at fault as a whole.
 fn tell_refused(rt: &impl Print, text: &[u8], at: Located<TextFault>) -> io::Result<()> {
-    print!(rt; "refused {}", at.fault.number())?;
-    match at.fault {
-        TextFault::TooLong => println!(rt; ":")?,
-        _ => show_place(rt, text, at.place)?,
-    }
+    let number = at.fault.number();
     let rule = Rule {
         fault: at.fault,
         at_end: at.place >= text.len(),
     };
+    if let TextFault::TooLong = at.fault {
+        return println!(rt; "refused {number}:\n{rule}");
+    }
+    let spot = Spot {
+        text,
+        place: at.place,
+    };
+    let position = spot.position();
+    println!(rt;
+        "refused {number} at line {}, column {}:",
+        position.line, position.column
+    )?;
+    show_line(rt, spot, position.column)?;
     println!(rt; "{rule}")
 }
 
