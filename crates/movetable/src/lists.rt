@@ -49,6 +49,14 @@ impl<const ROOM: usize> MoveLists<ROOM> {
         }
     }
 
+    // How many states there are.
+    pub fn states(&self) -> u8
+        ensures { result ≡ length self.now }
+    {
+        let MoveLists { states, .. } = self;
+        *states
+    }
+
     // One state more, without moves.
     pub fn add_state(&mut self)
         requires { length self.old < 64 }

@@ -36,6 +36,17 @@ impl<const ROOM: usize> MoveTable<ROOM> {
         MoveTable { states: 1, lists }
     }
 
+    // The moves of the lists, which are those of a process that keeps the limits.
+    pub fn of_lists(lists: MoveLists<ROOM>) -> Self
+        requires { Limits (proc_of lists) }
+        ensures { meaning_of result ≡ proc_of lists.entry }
+    {
+        MoveTable {
+            states: lists.states(),
+            lists,
+        }
+    }
+
     // The moves of a process that has no more than there is room for.
     pub fn of<P: Process>(p: &P) -> Self
         requires small { ROOM < 2 ^ 16 }
@@ -49,10 +60,7 @@ impl<const ROOM: usize> MoveTable<ROOM> {
                 lists.push(m);
             }
         }
-        MoveTable {
-            states: p.states(),
-            lists,
-        }
+        MoveTable::of_lists(lists)
     }
 }
 

@@ -1,5 +1,5 @@
-use Rattle.std.proofs.Common.{length, ap, arith}
-use Rattle.movetable.proofs.Copying.{length_below, some_state, room_for, more_pushed, fewer_left, none_left, count_is, same_process, same_limits}
+use Rattle.std.proofs.Common.{length, ap, ◌∙◌, arith}
+use Rattle.movetable.proofs.Copying.{length_below, some_state, room_for, more_pushed, fewer_left, none_left, same_process, same_limits}
 use Rattle.movetable.proofs.table.MoveTable.of.Goals as goal
 
 pub add_state-requires : goal.add_state-requires
@@ -35,14 +35,14 @@ loop-s-preserved g c =
     let w = c.loop-m.invariant in
     none_left (g.P.Process.meaning c.args.p.now) c.loop-s.s _ _ _ w.lists w.rest c.in-None.ensures.steps.0
 
-pub invariant_of-result : goal.invariant_of-result
-invariant_of-result g c =
+pub of_lists-requires : goal.of_lists-requires
+of_lists-requires g c =
     let p = g.P.Process.meaning c.args.p.now in
     let L = g.met.P.Process.limits c.args.p.now in
-    record {
-      count = omega (arith, count_is p L c.loop-s.s c.loop-s.lists c.loop-s.invariant (omega arith));
-      limits = same_limits p L c.loop-s.s c.loop-s.lists c.loop-s.invariant (omega arith);
-    }
+    (omega (arith, c.requires.small), (omega (arith, c.requires.small), same_limits p L c.loop-s.s c.loop-s.lists c.loop-s.invariant (omega arith)))
 
 pub returns : goal.returns
-returns g c = same_process (g.P.Process.meaning c.args.p.now) (g.met.P.Process.limits c.args.p.now) c.loop-s.s c.loop-s.lists c.loop-s.invariant (omega arith)
+returns g c =
+    let p = g.P.Process.meaning c.args.p.now in
+    let L = g.met.P.Process.limits c.args.p.now in
+    c.of_lists.ensures ∙ same_process p L c.loop-s.s c.loop-s.lists c.loop-s.invariant (omega arith)
