@@ -53,3 +53,7 @@ total n (r ∷ rs) =
     let f = below_first n r rs in
     let o : one (ltb r.from n) ≤ 1 = grind (arith, nat_tests) in
     omega arith
+
+-- so the moves of the states below s leave room for those of s
+pub room_for_state : (s : ℕ) (rs : List Transition) → below s rs + length (moves_of s rs) ≤ length rs
+room_for_state s rs = omega (arith, below_more s rs, total (suc s) rs)

@@ -2,6 +2,7 @@
 #![tactic(auto)]
 
 pub mod fault;
+mod index;
 mod rows;
 pub mod table;
 pub mod transition;

@@ -43,7 +43,7 @@ impl RowTable {
             states: vetted.states,
             rows,
             len,
-            index: MoveTable::of(vetted),
+            index: vetted.index(),
         }
     }
 
