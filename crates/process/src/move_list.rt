@@ -7,7 +7,7 @@ use crate::moves::Move;
 use crate::process::Process;
 
 // The moves of a state that are not yet given, from the one with this place on.
-#[derive(Clone, Copy)]
+#[derive_where(Clone, Copy)]
 pub struct MovesOf<'a, P> {
     process: &'a P,
     state: u8,
