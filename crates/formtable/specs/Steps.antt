@@ -1,15 +1,20 @@
 -- Past and the moves of a place by those of the places of its inner forms.
-use Rattle.std.specs.Prelude.{◌≡◌, ℕ, zero, suc, ◌+◌, ◌<◌, ◌≤◌, Bool, true, false, ◌⊎◌, List, [], ◌∷◌, ◌++◌, length, Some, None, Option, ◌==◌, ◌≢◌, refl}
+use Rattle.std.specs.Prelude.{◌≡◌, ℕ, zero, suc, ◌+◌, ◌<◌, ◌≤◌, Bool, true, false, ◌⊎◌, List, [], ◌∷◌, ◌++◌, length, Some, None, Option, ◌==◌, ◌≢◌, slice_index_or, refl}
 use Rattle.std.proofs.Common.{sym, ap, ap₂, ◌∙◌, inl, inr, ⊎_elim, zero-add, suc-add, add-one, arith, length-append}
 use Rattle.std.proofs.lemmas.Bool.{eqb-true, eq-eqb, ne_eqb, cases_lt}
-use Rattle.std.proofs.lemmas.Option.{none-some, slice_get_past}
+use Rattle.std.proofs.lemmas.Option.{none-some, slice_get-get_or, slice_get_past}
 use Rattle.std.specs.List.{slice_get}
 use Rattle.process.specs.declared.moves.Move.{Move}
+use Rattle.formtable.specs.Kinds.{kind_of}
 use Rattle.formtable.specs.Layout.{form_at, past, past_in, past_with, or_past, at_right, moves, moves_in, moves_by, LaidOut}
 use Rattle.formtable.specs.declared.record.Form.{Form}
 use Rattle.formtable.specs.declared.record.Form.TheVariants.{End, Do, Tau, Or, Rec, Go}
 use Rattle.formtable.specs.declared.record.Record.{Record}
 use Rattle.formtable.specs.Laid.{At, at_end, at_do, at_tau, at_or, at_rec, at_go, at_longer, at_past_in, past_in_at, at_inside, Inside, moves_of, at_moves_in, none_some}
+
+-- what stands at a place, by the record there
+pub form_at_read : (rs : List Record) (i : ℕ) (d : Record) → i < length rs → kind_of (slice_index_or rs i d).kind (slice_index_or rs i d).argument ≡ form_at rs i
+form_at_read rs i d h = rw (slice_get-get_or rs i d h)
 
 pub form_at_past : (rs : List Record) (i : ℕ) → length rs ≤ i → form_at rs i ≡ None
 form_at_past rs i h = rw (slice_get_past rs i h)
@@ -150,10 +155,50 @@ nth_right (m ∷ ms) ns k = rw suc-add (nth_right ms ns k)
 
 -- the same over arms that several kinds share
 module _ (rs : List Record) (i : ℕ) (f : Form) (is : Some f ≡ form_at rs i) where
+  pub past_leaf : (f ≡ End) ⊎ ((k : ℕ) × (f ≡ Go k)) → past rs i ≡ Some (suc i)
+  past_leaf (inl e) = past_is rs i (Some End) (ap Some (sym e) ∙ is)
+  past_leaf (inr e) = past_is rs i (Some (Go e.0)) (ap Some (sym e.1) ∙ is)
+
   pub past_inner : ((a : ℕ) × (f ≡ Do a)) ⊎ ((f ≡ Tau) ⊎ (f ≡ Rec)) → past rs i ≡ past rs (suc i)
   past_inner (inl e) = past_is rs i (Some (Do e.0)) (ap Some (sym e.1) ∙ is)
   past_inner (inr (inl e)) = past_is rs i (Some Tau) (ap Some (sym e) ∙ is)
   past_inner (inr (inr e)) = past_is rs i (Some Rec) (ap Some (sym e) ∙ is)
+
+-- the moves of a form that is no or
+module _ (rs : List Record) (i : ℕ) (f : Option Form) (is : f ≡ form_at rs i) (laid : LaidOut rs) where
+  pub moves_none : (f ≡ Some End) ⊎ (f ≡ None) → moves rs i ≡ []
+  moves_none (inl e) = moves_is rs laid i (Some End) (sym e ∙ is)
+  moves_none (inr e) = moves_is rs laid i None (sym e ∙ is)
+
+  pub moves_one : ((a : ℕ) × (f ≡ Some (Do a))) ⊎ ((f ≡ Some Tau) ⊎ ((f ≡ Some Rec) ⊎ ((k : ℕ) × (f ≡ Some (Go k))))) → length (moves rs i) ≡ 1
+  moves_one (inl e) = ap length (moves_is rs laid i (Some (Do e.0)) (sym e.1 ∙ is))
+  moves_one (inr (inl e)) = ap length (moves_is rs laid i (Some Tau) (sym e ∙ is))
+  moves_one (inr (inr (inl e))) = ap length (moves_is rs laid i (Some Rec) (sym e ∙ is))
+  moves_one (inr (inr (inr e))) = ap length (moves_is rs laid i (Some (Go e.0)) (sym e.1 ∙ is))
+
+  -- a form that is no or has its own move at most
+  own_moves : (g : Option Form) → ((r : ℕ) → g ≢ Some (Or r)) → moves_by (λ p. moves rs p) i g ≡ moves_by (λ p. []) i g
+  own_moves (Some End) ne = refl
+  own_moves (Some (Do a)) ne = refl
+  own_moves (Some Tau) ne = refl
+  own_moves (Some (Or r)) ne = absurd (ne r refl)
+  own_moves (Some Rec) ne = refl
+  own_moves (Some (Go k)) ne = refl
+  own_moves None ne = refl
+
+  pub moves_own : ((r : ℕ) → f ≢ Some (Or r)) → moves rs i ≡ moves_by (λ p. []) i f
+  moves_own ne = moves_is rs laid i f is ∙ own_moves f ne
+
+-- and no second one
+pub own_single : (i k : ℕ) (f : Option Form) → (k ≢ 0) → slice_get (moves_by (λ p. []) i f) k ≡ None
+own_single i zero f h = absurd (h refl)
+own_single i (suc k) (Some End) h = refl
+own_single i (suc k) (Some (Do a)) h = refl
+own_single i (suc k) (Some Tau) h = refl
+own_single i (suc k) (Some (Or r)) h = refl
+own_single i (suc k) (Some Rec) h = refl
+own_single i (suc k) (Some (Go j)) h = refl
+own_single i (suc k) None h = refl
 
 pub past_left_fails : (rs : List Record) (i r : ℕ) → Some (Or r) ≡ form_at rs i → past rs (suc i) ≡ None → past rs i ≡ None
 past_left_fails rs i r is e = past_is rs i (Some (Or r)) is ∙ ap (or_past (λ p. past rs p) r) e

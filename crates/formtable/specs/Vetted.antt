@@ -175,6 +175,9 @@ length_misfits rs k = here (fits rs) refl k
     here true e (inl z) = absurd (omega (arith, (fits_length rs e).0, z))
     here true e (inr z) = absurd (omega (arith, (fits_length rs e).1, z))
 
+pub vetted_laid : (rs : List Record) → vetted rs ≡ true → LaidOut rs
+vetted_laid rs ok = (vetted_formed rs ok).0.laid
+
 -- an or of a vetted table
 pub vetted_both : (rs : List Record) (i r : ℕ) → vetted rs ≡ true → Some (Or r) ≡ form_at rs i → Both rs i r × (length rs ≤ 64)
 vetted_both rs i r ok is = let w = (vetted_formed rs ok).0 in (both rs i r w.laid is, w.few)

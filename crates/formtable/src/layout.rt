@@ -14,7 +14,11 @@ use process::{Move, SILENT};
 pub fn form_at(table: &[Record], i: usize) -> Option<Form>
     ensures { result ≡ form_at table.now i }
 {
-    table.get(i).and_then(|r| Form::try_from(*r).ok())
+    // Kept: a match, which is compiled to fewer steps than ok().
+    match Form::try_from(*table.get(i)?) {
+        Ok(form) => Some(form),
+        Err(_) => None,
+    }
 }
 
 // The place after the form at i; None where it is not laid out well.
