@@ -25,18 +25,18 @@ pub enum Class {
 pub fn is_word_byte(b: u8) -> bool
     ensures { result ≡ alnum b }
 {
-    matches!(b, b'a'..=b'z' | b'0'..=b'9')
+    matches!(b as char, 'a'..='z' | '0'..='9')
 }
 
 // The bytes of a text are brackets, space, line feed, small letters and digits.
 pub fn class_of(b: u8) -> Class
     ensures { result ≡ class_of b }
 {
-    match b {
-        b'(' => Class::Open,
-        b')' => Class::Close,
-        b' ' | b'\n' => Class::Blank,
-        _ if is_word_byte(b) => Class::Letter,
+    match b as char {
+        '(' => Class::Open,
+        ')' => Class::Close,
+        ' ' | '\n' => Class::Blank,
+        'a'..='z' | '0'..='9' => Class::Letter,
         _ => Class::Foreign,
     }
 }
