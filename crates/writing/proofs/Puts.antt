@@ -1,5 +1,5 @@
 -- One text put behind another.
-use Rattle.std.proofs.Common.{◌≡◌, ℕ, ◌+◌, ◌<◌, List, [], ◌∷◌, ◌++◌, length, get_or, take, drop, Ok, Err, Result, sym, ap, ◌∙◌, arith}
+use Rattle.std.proofs.Common.{◌≡◌, ℕ, ◌+◌, ◌<◌, ◌≤◌, List, [], ◌∷◌, ◌++◌, length, get_or, take, drop, Ok, Err, Result, sym, ap, ◌∙◌, arith}
 use Rattle.std.specs.List.{flat_map}
 use Rattle.std.specs.Result.{IsErrAnd}
 use Rattle.std.proofs.lemmas.Result.{err_from_is_err_and}
@@ -49,10 +49,10 @@ writes_fail {old} {new} {a} {e} b p =
 pub writes_exit : {old new : Output} {bs : List ℕ} {e : OutputFault} {r : Result (Unit {0}) OutputFault} → IsErrAnd r (λ y. y ≡ e) → Writes old bs (Err e) new → Writes old bs r new
 writes_exit {r = r} h p = let q = err_from_is_err_and r h in rw (q.1, q.2) p
 
--- after a refusal the place is set back
-pub writes_back : {old mid new : Output} {bs : List ℕ} {e : OutputFault} → Writes old bs (Err e) mid → new.out ≡ mid.out → new.at ≡ old.at → Writes old bs (Err e) new
+-- after a refusal the place may be set back as far as to where it was
+pub writes_back : {old mid new : Output} {bs : List ℕ} {e : OutputFault} → Writes old bs (Err e) mid → new.out ≡ mid.out → old.at ≤ new.at → Writes old bs (Err e) new
 writes_back {old} {mid} {new} {bs} {e} p q h =
-    record { same_list = rw q p.same_list; same_length = rw q p.same_length; onward = omega (arith, h); put = rw q p.put }
+    record { same_list = rw q p.same_list; same_length = rw q p.same_length; onward = h; put = rw q p.put }
 
 module _ {X : Type 0} (f : X → List ℕ) (xs : List X) (i : ℕ) where
   -- the texts of the first, and that of the next behind them

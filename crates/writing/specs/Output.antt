@@ -23,6 +23,11 @@ abbrev pub BeginsAt : MutBor (List ℕ) → ℕ → Result Output OutputFault �
 BeginsAt list at (Ok x) = (at ≤ length list.now) × Begins list at x
 BeginsAt list at (Err e) = (e ≡ Short) × (length list.now < at)
 
+-- the output is n bytes further, or there were not so many and it is where it was; its list is as it was both times
+abbrev pub Skips : Output → ℕ → Result (Unit {0}) OutputFault → Output → Type 0
+Skips old n (Ok x) new = (old.at + n ≤ length old.out.now) × (new.at ≡ old.at + n) × (new.out ≡ old.out)
+Skips old n (Err e) new = (e ≡ Short) × (length old.out.now < old.at + n) × (new ≡ old)
+
 -- bs put into the list of the output, behind what was written; the place never goes back, on a refusal neither
 pub record Writes (old : Output) (bs : List ℕ) (answer : Result (Unit {0}) OutputFault) (new : Output) : Type 0 where
   pub same_list : new.out.ghost_name ≡ old.out.ghost_name

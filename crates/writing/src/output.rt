@@ -21,7 +21,7 @@ fn last_digit(n: usize) -> u8
 
 impl<'a> Output<'a> {
     ghost use Rattle.std.specs.List.{flat_map};
-    ghost use Rattle.writing.specs.Output.{Begins, BeginsAt, Writes, Stays, Ends};
+    ghost use Rattle.writing.specs.Output.{Begins, BeginsAt, Skips, Writes, Stays, Ends};
     ghost use Rattle.writing.specs.Pieces.{piece_text};
 
     // Begins at the front of the list.
@@ -32,6 +32,7 @@ impl<'a> Output<'a> {
     }
 
     // Begins at a place of the list; Short where the place is past the end.
+    // Kept: what a refusal leaves of a lent list has no clause; `new` and then `skip` leave it as it was.
     pub fn at(out: &'a mut [u8], at: usize) -> Result<Self, OutputFault>
         ensures { BeginsAt out.entry at result }
     {
@@ -39,6 +40,17 @@ impl<'a> Output<'a> {
             return Err(OutputFault::Short);
         }
         Ok(Output { out, at })
+    }
+
+    // Passes over so many bytes, and leaves them as they are; Short where there are not so many.
+    pub fn skip(&mut self, count: usize) -> Result<(), OutputFault>
+        ensures { Skips self.old count result self.new }
+    {
+        if self.out.len() - self.at < count {
+            return Err(OutputFault::Short);
+        }
+        self.at += count;
+        Ok(())
     }
 
     // Writes the bytes; Short where there is no room for them.
@@ -96,6 +108,13 @@ impl<'a> Output<'a> {
             }
         }
         Ok(())
+    }
+
+    // The place behind what was written.
+    pub fn place(&self) -> usize
+        ensures { result ≡ self.now.at }
+    {
+        self.at
     }
 
     // Makes every byte behind what was written 0, and counts what was written.

@@ -14,10 +14,10 @@ returns-in-Err-clause-writes t c =
     elim c.if-n-ge10.branch [
       | then-n-ge10+in_ok-put_number w ↦
           rw (decimal_step c.args.n w.if-n-ge10.true c.ranges.n.fits, ← c.last_digit.ensures)
-          (writes_back (writes_then w.in_ok-put_number.ensures.writes (rw w.self-is at c.in-Err.ensures.writes)) refl refl)
+          (writes_back (writes_then w.in_ok-put_number.ensures.writes (rw w.self-is at c.in-Err.ensures.writes)) refl (omega arith))
       | else-n-ge10 w ↦
           let digit : c.last_digit.result ≡ 48 + c.args.n = omega arith in
-          rw (decimal_digit c.args.n w.if-n-ge10.false, ← digit) (writes_back (rw w.self-is at c.in-Err.ensures.writes) refl refl)
+          rw (decimal_digit c.args.n w.if-n-ge10.false, ← digit) (writes_back (rw w.self-is at c.in-Err.ensures.writes) refl (omega arith))
     ]
 
 pub returns-clause-writes : goal.returns-clause-writes
