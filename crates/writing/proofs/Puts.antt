@@ -10,7 +10,7 @@ use Rattle.writing.specs.declared.output.Output.{Output}
 use Rattle.writing.specs.Output.{Put, Writes}
 
 -- one put, then another behind it
-put_seq : (old mid new a b : List ℕ) (at k : ℕ) (r : Result ℕ OutputFault) → Put old at a mid (Ok k) → length mid ≡ length old → Put mid k b new r → Put old at (a ++ b) new r
+pub put_seq : (old mid new a b : List ℕ) (at k : ℕ) (r : Result ℕ OutputFault) → Put old at a mid (Ok k) → length mid ≡ length old → Put mid k b new r → Put old at (a ++ b) new r
 put_seq old mid new a b at k (Ok n) (p0, p1, p2, p3) l (q0, q1, q2, q3) =
     let la = length-append a b in
     (omega arith, omega arith, q2 ∙ ap (λ (x : List ℕ). x ++ b) p2 ∙ append_assoc (take at old) a b, q3 ∙ behind)
@@ -27,7 +27,7 @@ put_seq old mid new a b at k (Err e) (p0, p1, p2, p3) l (q0, q1, q2) =
     (q0, omega arith, sym (take-take at k new (omega arith)) ∙ ap (take at) (q2 ∙ p2) ∙ take_at (take at old) a at (length-take-le at old (omega arith)))
 
 -- where there is no room for the front, there is none for the whole
-put_fails : (old new a b : List ℕ) (at : ℕ) (e : OutputFault) → Put old at a new (Err e) → Put old at (a ++ b) new (Err e)
+pub put_fails : (old new a b : List ℕ) (at : ℕ) (e : OutputFault) → Put old at a new (Err e) → Put old at (a ++ b) new (Err e)
 put_fails old new a b at e (p0, p1, p2) = let la = length-append a b in (p0, omega arith, p2)
 
 -- one text written, then another behind it

@@ -1,4 +1,4 @@
-// Writing at a place of a list. Each answer is the place behind what was written.
+// Writing at a place of a list, the rest of which stays. Each answer is the place behind what was written.
 ghost use Rattle.std.specs.Prelude.{decimal};
 ghost use Rattle.std.specs.List.{flat_map};
 ghost use Rattle.writing.specs.Output.{Put};

@@ -32,7 +32,7 @@ impl<'a> Output<'a> {
     }
 
     // Begins at a place of the list; Short where the place is past the end.
-    // Kept: what a refusal leaves of a lent list has no clause; `new` and then `skip` leave it as it was.
+    // Kept: nothing is known afterwards of a list that is lent into a Result; `new` and then `skip` keep sight of it.
     pub fn at(out: &'a mut [u8], at: usize) -> Result<Self, OutputFault>
         ensures { BeginsAt out.entry at result }
     {
