@@ -2,8 +2,6 @@
 ghost use Rattle.std.specs.Prelude.{◌≡◌, ℕ};
 ghost use Rattle.common.specs.Faults.{shown_by};
 
-use std::fmt;
-
 // A fault and the place where it was found: one way for every kind of fault.
 #[derive(Clone, Copy, Debug, PartialEq, Eq)]
 pub struct Located<F> {
@@ -41,11 +39,4 @@ pub fn told<F: Numbered>(at: &Located<F>) -> (u8, usize)
     ensures { result ≡ shown_by F.number_of at.now }
 {
     (at.fault.number(), at.place)
-}
-
-impl<F: Numbered> fmt::Display for Located<F> {
-    fn fmt<W: fmt::Write>(&self, f: &mut fmt::Formatter<W>) -> fmt::Result {
-        let (number, place) = told(self);
-        write!(f, "{number} {place}")
-    }
 }
