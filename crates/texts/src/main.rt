@@ -46,9 +46,12 @@ fn answered(heap: Global, line: &str) -> anyhow::Result<String> {
     let Some((length, written)) = line.split_once(' ') else {
         return Err(anyhow!("a line without a space"));
     };
-    let text = written.replace(heap, '|', "\n")?;
+    let text: Vec<u8> = written
+        .bytes()
+        .map(|b| if b == b'|' { b'\n' } else { b })
+        .collect(heap)?;
     let mut records = vec![in heap; OLD; length.parse::<u16>()? as usize]?;
-    match read(text.as_bytes(), &mut records) {
+    match read(&text, &mut records) {
         Ok(plan) => Ok(format!(in heap;
             "{} {}{}",
             Name(plan.name),
