@@ -144,10 +144,10 @@ where
 
     fn read(numbers: &mut Numbers) -> Result<Vec<T>, T::Fault> {
         let count = u16::read(numbers)?;
-        let mut parts = Vec::with_capacity(numbers.heap, count as usize)?;
+        let mut parts = Vec::new(numbers.heap);
         for _ in 0..count {
             let part = T::read(numbers)?;
-            parts.push(part).unwrap();
+            parts.push(part).map_err(AllocError::from)?;
         }
         Ok(parts)
     }

@@ -13,7 +13,6 @@ pub loop-preserved : goal.loop-preserved
 loop-preserved g c =
     let e : c.push.new.self.items ≡ c.loop.parts.items ++ c.in_ok-part.part ∷ [] = search rules in
     record {
-      room = grind (arith, common_steps);
       so_many = rw e (grind (arith, common_steps));
       read = rw e (ReadsAll-push g.T.Written.Reads _ _ _ _ _ c.loop.invariant.read c.in_ok-part.ensures.ok);
     }

@@ -1,10 +1,9 @@
-use Rattle.std.proofs.Common.{◌≡◌, ◌≤◌, length, vec_capacity}
+use Rattle.std.proofs.Common.{◌≡◌, length}
 use Rattle.cases.specs.Reading.{ReadsAll}
 use Rattle.cases.proofs.numbers.VecWritten.read.Given as goal
 
 abbrev pub invariant-loop : goal.invariant-loop
 invariant-loop g l = record {
-  room : l.count ≤ vec_capacity l.parts;
   so_many : length l.parts.items ≡ l.counter;
   read : ReadsAll g.T.Written.Reads l.initial.numbers l.parts.items l.numbers;
 }
