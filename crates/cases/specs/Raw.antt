@@ -1,6 +1,7 @@
 -- Tables as a line writes them, and what vetting makes of them.
 use Rattle.std.specs.Prelude.{◌≡◌, ◌≢◌, ◌⊎◌, [], ◌∷◌, ℕ, List, Ok, Err, Result}
 use Rattle.process.specs.Meaning.{Proc}
+use Rattle.formtable.specs.Kinds.{row}
 use Rattle.formtable.specs.Meaning.{process}
 use Rattle.formtable.specs.Table.{held as held_forms}
 use Rattle.formtable.specs.Vet.{verdict as forms_verdict}
@@ -39,6 +40,11 @@ verdict_on (Forms records) = forms_verdict records.items
 abbrev pub meaning_then : RawTable → Proc
 meaning_then (Rows states rows) = meant (held_rows (rows_verdict states rows.items) states rows.items)
 meaning_then (Forms records) = process (held_forms (forms_verdict records.items) records.items)
+
+-- what a table of its kind means that holds something before: a step by motion 1
+abbrev pub meaning_before : RawTable → Proc
+meaning_before (Rows states rows) = meant (record { states = 2; rows = record { from = 0; motion = 1; to = 1 } ∷ [] })
+meaning_before (Forms records) = process (row 1 1 ∷ row 0 0 ∷ [])
 
 -- what vetting answers
 abbrev pub Vetted : RawTable → Result Table Refused → Type 0

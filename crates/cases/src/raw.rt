@@ -1,13 +1,13 @@
 // Tables as a line writes them, and their vetting.
 ghost use Rattle.std.specs.Prelude.{◌≡◌};
-ghost use Rattle.common.specs.Faults.{numbered};
-ghost use Rattle.cases.specs.Raw.{ReadsTable, LacksTable, Vetted, settled_by};
+ghost use Rattle.cases.specs.Raw.{ReadsTable, LacksTable, Vetted, meaning_before, meaning_then, settled_by, verdict_on};
+ghost use Rattle.cases.specs.Tables.{meaning_of};
 
 use crate::numbers::{LineFault, Numbers, Written};
 use crate::table::Table;
 use common::Numbered;
-use formtable::{FormTable, Record};
-use rowtable::{RowTable, Transition};
+use formtable::Record;
+use rowtable::Transition;
 
 // A table that nothing is known of.
 #[derive(Drop)]
@@ -42,59 +42,61 @@ impl Written for RawTable {
 }
 
 // A table that was vetted, or the number of the fault with it.
-fn settled<F: Numbered + Drop>(vetted: Result<(), F>, table: Table) -> Result<Table, Refused>
-    ensures { result ≡ settled_by (numbered F.number_of vetted) table }
+fn settled(vetted: Result<(), u8>, table: Table) -> Result<Table, Refused>
+    ensures { result ≡ settled_by vetted table }
 {
     match vetted {
         Ok(()) => Ok(table),
         Err(fault) => Err(Refused {
-            number: fault.number(),
+            number: fault,
             left: table,
         }),
     }
 }
 
-// A row table that holds something before it is used.
-fn used_rows() -> RowTable {
-    let mut table = RowTable::new();
-    let _ = table.vet(
-        2,
-        &[Transition {
-            from: 0,
-            motion: 1,
-            to: 1,
-        }],
-    );
-    table
-}
-
-// A form table that holds something before it is used.
-fn used_forms() -> FormTable {
-    let mut table = FormTable::new();
-    let _ = table.vet(&[
-        Record {
-            kind: 1,
-            argument: 1,
-        },
-        Record::EMPTY,
-    ]);
-    table
-}
-
 impl RawTable {
+    // Makes a table one of its kind that holds something, before it is used.
+    pub fn prepare(&self, table: &mut Table)
+        ensures { meaning_of table.new ≡ meaning_before self.now }
+    {
+        match self {
+            RawTable::Rows(_, _) => {
+                let row = Transition {
+                    from: 0,
+                    motion: 1,
+                    to: 1,
+                };
+                let _ = table.vet_rows(2, &[row]);
+            }
+            RawTable::Forms(_) => {
+                let first = Record {
+                    kind: 1,
+                    argument: 1,
+                };
+                let _ = table.vet_forms(&[first, Record::EMPTY]);
+            }
+        }
+    }
+
+    // Vets it into a table of either kind. A refusal is told by its number.
+    pub fn vet_into(&self, table: &mut Table) -> Result<(), u8>
+        ensures answer { result ≡ verdict_on self.now }
+        ensures after { meaning_of table.new ≡ meaning_then self.now }
+    {
+        match self {
+            RawTable::Rows(states, rows) => table
+                .vet_rows(*states, rows)
+                .map_err(|fault| fault.number()),
+            RawTable::Forms(records) => { table.vet_forms(records).map_err(|fault| fault.number()) }
+        }
+    }
+
     // What vetting makes of it. The table that it is written into holds another before.
     pub fn vet(&self) -> Result<Table, Refused>
         ensures { Vetted self.now result }
     {
-        match self {
-            RawTable::Rows(states, rows) => {
-                let mut table = used_rows();
-                settled(table.vet(*states, rows), Table::Rows(table))
-            }
-            RawTable::Forms(records) => {
-                let mut table = used_forms();
-                settled(table.vet(records), Table::Forms(table))
-            }
-        }
+        let mut table = Table::new();
+        self.prepare(&mut table);
+        settled(self.vet_into(&mut table), table)
     }
 }

@@ -2,8 +2,9 @@
 ghost use Rattle.std.specs.Prelude.{ℕ, List};
 ghost use Rattle.cases.specs.Reading.{ReadsList, ReadsCertified};
 
+use crate::vetting::vet_next;
 use anyhow::anyhow;
-use cases::{Numbers, RawTable, Table, Written};
+use cases::{Numbers, Table, Written};
 use certificate::Row;
 use gate::check;
 use std::alloc::Global;
@@ -16,11 +17,9 @@ pub struct Admission {
     pub rows: Vec<Row>,
 }
 
-// A table that passes vetting.
-fn good_table(numbers: &mut Numbers) -> anyhow::Result<Table> {
-    RawTable::read(numbers)?
-        .vet()
-        .map_err(|_| anyhow!("a table is refused"))
+// Vets the table that stands next into this one. One that is refused is an error.
+fn vet_good(numbers: &mut Numbers, table: &mut Table) -> anyhow::Result<()> {
+    vet_next(numbers, table)?.map_err(|_| anyhow!("a table is refused"))
 }
 
 // PLAN PERMIT CERTIFICATE
@@ -33,11 +32,12 @@ impl Written for Admission {
     ghost Lacks = { λ _ _. Unit {0} };
 
     fn read(numbers: &mut Numbers) -> anyhow::Result<Admission> {
-        Ok(Admission {
-            plan: good_table(numbers)?,
-            permit: good_table(numbers)?,
-            rows: Vec::read(numbers)?,
-        })
+        let mut plan = Table::new();
+        vet_good(numbers, &mut plan)?;
+        let mut permit = Table::new();
+        vet_good(numbers, &mut permit)?;
+        let rows = Vec::read(numbers)?;
+        Ok(Admission { plan, permit, rows })
     }
 }
 
@@ -56,6 +56,8 @@ pub(crate) fn judged(
 
 // The answer to PLAN PERMIT CERTIFICATE.
 pub(crate) fn gated(heap: Global, numbers: &mut Numbers) -> anyhow::Result<String> {
-    let asked = Admission::read(numbers)?;
-    judged(heap, &asked.plan, &asked.permit, &asked.rows)
+    match Admission::read(numbers) {
+        Ok(asked) => judged(heap, &asked.plan, &asked.permit, &asked.rows),
+        Err(error) => Err(error),
+    }
 }

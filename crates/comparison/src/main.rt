@@ -43,5 +43,5 @@ fn answered(heap: Global, line: &str) -> anyhow::Result<String> {
 }
 
 fn main(rt: HostRuntime) -> anyhow::Result<()> {
-    answer_lines(&rt, answered)
+    answer_lines(rt.alloc(), rt.stdin(), rt.stdout(), answered)
 }

@@ -1,6 +1,7 @@
 // What the search answers, and what its lists then hold.
 use crate::admissions::judged;
-use cases::{Numbers, RawTable, Spaced, Written};
+use crate::vetting::vet_next;
+use cases::{Numbers, Spaced, Table, Written};
 use certificate::Row;
 use common::Numbered;
 use desk::{Found, find};
@@ -38,14 +39,14 @@ pub(crate) fn searched<F: Fn(Global, &[u8]) -> Result<String, AllocError>>(
 {
     let mut rows = vec![in heap; OLD_ROW; u16::read(numbers)? as usize]?;
     let mut motions = vec![in heap; OLD_MOTION; u16::read(numbers)? as usize]?;
-    let plan = match RawTable::read(numbers)?.vet() {
-        Ok(table) => table,
-        Err(refused) => return Ok(format!(in heap; "plan {}", refused.number)?),
-    };
-    let permit = match RawTable::read(numbers)?.vet() {
-        Ok(table) => table,
-        Err(refused) => return Ok(format!(in heap; "permit {}", refused.number)?),
-    };
+    let mut plan = Table::new();
+    if let Err(number) = vet_next(numbers, &mut plan)? {
+        return Ok(format!(in heap; "plan {number}")?);
+    }
+    let mut permit = Table::new();
+    if let Err(number) = vet_next(numbers, &mut permit)? {
+        return Ok(format!(in heap; "permit {number}")?);
+    }
     let answer = match find(&plan, &permit, &mut rows, &mut motions) {
         Ok(Found::Within(found)) => {
             let verdict = judged(heap, &plan, &permit, found)?;

@@ -1,8 +1,15 @@
 // What vetting answers.
-use cases::{Numbers, RawTable, Table, Written};
+use cases::{LineFault, Numbers, RawTable, Table, Written};
 use process::{Process, moves_of};
 use std::alloc::Global;
 use std::fmt;
+
+// Vets the table that stands next, into one that holds something before; or the number of the refusal.
+pub(crate) fn vet_next(numbers: &mut Numbers, table: &mut Table) -> Result<Result<(), u8>, LineFault> {
+    let raw = RawTable::read(numbers)?;
+    raw.prepare(table);
+    Ok(raw.vet_into(table))
+}
 
 // A vetted table as it is told: its states, each with its moves.
 #[derive(Clone, Copy)]
@@ -24,11 +31,9 @@ impl fmt::Display for Meant<'_> {
 
 // The answer to TABLE: what the vetted table means, also after a refusal.
 pub(crate) fn vetted(heap: Global, numbers: &mut Numbers) -> anyhow::Result<String> {
-    match RawTable::read(numbers)?.vet() {
-        Ok(table) => Ok(format!(in heap; "{}", Meant(&table))?),
-        Err(refused) => {
-            let meant = Meant(&refused.left);
-            Ok(format!(in heap; "refused {}, {meant}", refused.number)?)
-        }
+    let mut table = Table::new();
+    match vet_next(numbers, &mut table)? {
+        Ok(()) => Ok(format!(in heap; "{}", Meant(&table))?),
+        Err(number) => Ok(format!(in heap; "refused {number}, {}", Meant(&table))?),
     }
 }

@@ -4,7 +4,7 @@
 #![tactic(auto)]
 
 use anyhow::anyhow;
-use cases::{LineFault, Numbers, RawTable, Spaced, Written, answer_lines};
+use cases::{LineFault, Numbers, RawTable, Spaced, Table, Written, answer_lines};
 use certificate::Row;
 use common::Numbered;
 use desk::{Found, find};
@@ -42,14 +42,14 @@ fn told(fault: LineFault) -> anyhow::Error {
 fn answered(heap: Global, line: &str) -> anyhow::Result<String> {
     let mut numbers = Numbers::of::<u16>(heap, line)?;
     let case = Case::read(&mut numbers).map_err(told)?;
-    let plan = match case.plan.vet() {
-        Ok(table) => table,
-        Err(refused) => return Ok(format!(in heap; "plan {}", refused.number)?),
-    };
-    let permit = match case.permit.vet() {
-        Ok(table) => table,
-        Err(refused) => return Ok(format!(in heap; "permit {}", refused.number)?),
-    };
+    let mut plan = Table::new();
+    if let Err(number) = case.plan.vet_into(&mut plan) {
+        return Ok(format!(in heap; "plan {number}")?);
+    }
+    let mut permit = Table::new();
+    if let Err(number) = case.permit.vet_into(&mut permit) {
+        return Ok(format!(in heap; "permit {number}")?);
+    }
     let mut rows = vec![in heap; Row::empty(); case.rows as usize]?;
     let mut motions = vec![in heap; 0u8; case.motions as usize]?;
     match find(&plan, &permit, &mut rows, &mut motions) {
@@ -60,5 +60,5 @@ fn answered(heap: Global, line: &str) -> anyhow::Result<String> {
 }
 
 fn main(rt: HostRuntime) -> anyhow::Result<()> {
-    answer_lines(&rt, answered)
+    answer_lines(rt.alloc(), rt.stdin(), rt.stdout(), answered)
 }
