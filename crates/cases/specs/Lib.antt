@@ -1,3 +1,4 @@
+pub mod Left
 pub mod Line
 pub mod Raw
 pub mod Reading

@@ -44,20 +44,40 @@ impl From<AllocError> for LineFault {
     }
 }
 
+// The numbers that are left of a line, in 16 bits each or in 64.
+#[derive(Drop)]
+enum Left {
+    Short(IntoIter<u16>),
+    Long(IntoIter<u64>),
+}
+
 // The numbers of a line that are left, and the heap for what they write.
 #[derive(Drop)]
 pub struct Numbers {
-    left: IntoIter<u64>,
+    left: Left,
     heap: Global,
 }
 
 impl Model for Numbers {
     ghost use Rattle.std.specs.Prelude.{ℕ, List};
-    ghost use Rattle.std.specs.Vec.Iter.{into_iter_items};
+    ghost use Rattle.cases.specs.Left.{left_of};
 
     ghost Value = { List ℕ };
 
-    ghost view = { λ n. into_iter_items n.left };
+    ghost view = { λ n. left_of n.left };
+}
+
+// The words of a line, each read as an N and held as a K.
+fn parsed<N: FromStr + Into<K>, K: Drop>(heap: Global, line: &str) -> anyhow::Result<Vec<K>>
+where
+    N::Err: Error,
+    ensures { IfOk result (λ all. IsLine N.from_str_gives N.converts line.now all.items) }
+{
+    let mut all = Vec::new(heap);
+    for word in line.split_whitespace() {
+        all.push(word.parse::<N>()?.into())?;
+    }
+    Ok(all)
 }
 
 impl Numbers {
@@ -67,14 +87,16 @@ impl Numbers {
         N::Err: Error,
         ensures { IfOk result (IsLine N.from_str_gives N.converts line.now) }
     {
-        let mut all = Vec::new(heap);
-        for word in line.split_whitespace() {
-            all.push(word.parse::<N>()?.into())?;
-        }
-        Ok(Numbers {
-            left: all.into_iter(),
-            heap,
-        })
+        let left = Left::Long(parsed::<N, u64>(heap, line)?.into_iter());
+        Ok(Numbers { left, heap })
+    }
+
+    // The numbers of a line of none over 16 bits, which are held in as many.
+    pub fn of_short(heap: Global, line: &str) -> anyhow::Result<Numbers>
+        ensures { IfOk result (IsLine ⟦<u16 as FromStr>⟧.from_str_gives (λ x n. n ≡ x) line.now) }
+    {
+        let left = Left::Short(parsed::<u16, u16>(heap, line)?.into_iter());
+        Ok(Numbers { left, heap })
     }
 }
 
@@ -101,7 +123,11 @@ impl Written for u64 {
     ghost Lacks = { Ended };
 
     fn read(numbers: &mut Numbers) -> Result<u64, LineFault> {
-        numbers.left.next().ok_or(LineFault::Missing)
+        match &mut numbers.left {
+            Left::Short(left) => left.next().map(u64::from),
+            Left::Long(left) => left.next(),
+        }
+        .ok_or(LineFault::Missing)
     }
 }
 

@@ -13,6 +13,9 @@ fn numbers_of_a_line(rt: HostRuntime) -> Result<(), Fail> {
     assert_eq!(rt; u16::read(&mut numbers), Ok(300));
     assert_eq!(rt; u8::read(&mut numbers), Err(LineFault::Missing));
     assert!(rt; Numbers::of::<u16>(rt.alloc(), "7 70000").is_err());
+    let mut short = Numbers::of_short(rt.alloc(), "300 7")?;
+    assert_eq!(rt; u16::read(&mut short), Ok(300));
+    assert!(rt; Numbers::of_short(rt.alloc(), "7 70000").is_err());
     Ok(())
 }
 

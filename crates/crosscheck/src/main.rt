@@ -10,22 +10,27 @@ use common::Numbered;
 use desk::{Found, find};
 use std::alloc::Global;
 
-// What a line asks for: ROWS MOTIONS PLAN PERMIT.
+// What a line asks for: ROWS MOTIONS PLAN PERMIT. Of a table it keeps what vetting answers.
 #[derive(Drop)]
 struct Case {
     rows: u16,
     motions: u16,
-    plan: RawTable,
-    permit: RawTable,
+    plan: Result<(), u8>,
+    permit: Result<(), u8>,
 }
 
 impl Case {
-    fn read(numbers: &mut Numbers) -> Result<Case, LineFault> {
+    // Reads a case, and vets its tables into these.
+    fn read(
+        numbers: &mut Numbers,
+        plan: &mut Table,
+        permit: &mut Table,
+    ) -> Result<Case, LineFault> {
         Ok(Case {
             rows: u16::read(numbers)?,
             motions: u16::read(numbers)?,
-            plan: RawTable::read(numbers)?,
-            permit: RawTable::read(numbers)?,
+            plan: RawTable::read(numbers)?.vet_into(plan),
+            permit: RawTable::read(numbers)?.vet_into(permit),
         })
     }
 }
@@ -40,14 +45,14 @@ fn told(fault: LineFault) -> anyhow::Error {
 
 // The answer to a line.
 fn answered(heap: Global, line: &str) -> anyhow::Result<String> {
-    let mut numbers = Numbers::of::<u16>(heap, line)?;
-    let case = Case::read(&mut numbers).map_err(told)?;
+    let mut numbers = Numbers::of_short(heap, line)?;
     let mut plan = Table::new();
-    if let Err(number) = case.plan.vet_into(&mut plan) {
+    let mut permit = Table::new();
+    let case = Case::read(&mut numbers, &mut plan, &mut permit).map_err(told)?;
+    if let Err(number) = case.plan {
         return Ok(format!(in heap; "plan {number}")?);
     }
-    let mut permit = Table::new();
-    if let Err(number) = case.permit.vet_into(&mut permit) {
+    if let Err(number) = case.permit {
         return Ok(format!(in heap; "permit {number}")?);
     }
     let mut rows = vec![in heap; Row::empty(); case.rows as usize]?;
