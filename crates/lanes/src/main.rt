@@ -12,7 +12,7 @@ const LIST: usize = 64;
 const OUTPUT: usize = 1_024;
 
 fn main(rt: HostRuntime) -> anyhow::Result<()> {
-    let mut desk = Desk::<LIST, OUTPUT>::new();
+    let mut desk = Box::new(rt.alloc(), Desk::<LIST, OUTPUT>::new())?;
     let permit = bench_permit();
     for line in BufReader::new(rt.alloc(), rt.stdin())?.lines(rt.alloc()) {
         rt.stdout()

@@ -25,7 +25,7 @@ fn answer<'a>(desk: &'a mut Desk<LIST, OUTPUT>, line: &str) -> anyhow::Result<&'
 }
 
 fn main(rt: HostRuntime) -> anyhow::Result<()> {
-    let mut desk = Desk::new();
+    let mut desk = Box::new(rt.alloc(), Desk::<LIST, OUTPUT>::new())?;
     for line in BufReader::new(rt.alloc(), rt.stdin())?.lines(rt.alloc()) {
         rt.stdout().write_all(answer(&mut desk, line?.as_str())?)?;
     }
