@@ -12,7 +12,7 @@ mod table;
 pub use answers::answer_lines;
 pub use numbers::{LineFault, Numbers, Written};
 pub use raw::{RawTable, Refused};
-pub use shown::Spaced;
+pub use shown::{Shown, Spaced};
 pub use table::Table;
 
 #[cfg(test)]

@@ -1,8 +1,11 @@
-// How numbers are told in an answer.
+// How numbers and faults are told in an answer.
 ghost use Rattle.std.specs.Prelude.{Some};
 ghost use Rattle.std.specs.List.{flat_map};
-ghost use Rattle.cases.specs.Shown.{spaced};
+ghost use Rattle.common.specs.Faults.{shown_by};
+ghost use Rattle.cases.specs.Shown.{placed, spaced};
 
+use common::fault::told;
+use common::{Located, Numbered};
 use std::fmt;
 
 // Numbers, each after a space.
@@ -17,5 +20,18 @@ impl fmt::Display for Spaced<'_> {
             write!(f, " {n}")?;
         }
         Ok(())
+    }
+}
+
+// A fault by its number, and its place.
+#[derive(Clone, Copy)]
+pub struct Shown<'a, F>(pub &'a Located<F>);
+
+impl<F: Numbered> fmt::Display for Shown<'_, F> {
+    ghost output = { λ s. Some (placed (shown_by F.number_of s.0.now)) };
+
+    fn fmt<W: fmt::Write>(&self, f: &mut fmt::Formatter<W>) -> fmt::Result {
+        let (number, place) = told(self.0);
+        write!(f, "{number} {place}")
     }
 }

@@ -4,7 +4,7 @@ ghost use Rattle.cases.specs.Reading.{ReadsList, ReadsCertified};
 
 use crate::vetting::vet_next;
 use anyhow::anyhow;
-use cases::{Numbers, Table, Written};
+use cases::{Numbers, Shown, Table, Written};
 use certificate::Row;
 use gate::check;
 use std::alloc::Global;
@@ -50,7 +50,7 @@ pub(crate) fn judged(
 ) -> anyhow::Result<String> {
     match check(plan, permit, rows) {
         Ok(()) => Ok(String::from_str(heap, "accepted")?),
-        Err(at) => Ok(format!(in heap; "refused {at}")?),
+        Err(at) => Ok(format!(in heap; "refused {}", Shown(&at))?),
     }
 }
 

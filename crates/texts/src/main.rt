@@ -3,7 +3,7 @@
 #![tactic(auto)]
 
 use anyhow::anyhow;
-use cases::answer_lines;
+use cases::{Shown, answer_lines};
 use formtable::Record;
 use reader::read;
 use std::alloc::Global;
@@ -58,7 +58,7 @@ fn answered(heap: Global, line: &str) -> anyhow::Result<String> {
             plan.count,
             Records(&records)
         )?),
-        Err(at) => Ok(format!(in heap; "refused {at}{}", Records(&records))?),
+        Err(at) => Ok(format!(in heap; "refused {}{}", Shown(&at), Records(&records))?),
     }
 }
 
