@@ -51,6 +51,10 @@ abbrev pub Vetted : RawTable → Result Table Refused → Type 0
 Vetted raw (Ok t) = (verdict_on raw ≡ Ok tt) × (meaning_of t ≡ meaning_then raw)
 Vetted raw (Err r) = (verdict_on raw ≡ Err r.number) × (meaning_of r.left ≡ meaning_then raw)
 
+-- a table stands there that passes vetting, and is what vetting makes of it
+abbrev pub ReadsVetted : List ℕ → Table → List ℕ → Type 0
+ReadsVetted old t new = (raw : RawTable) × ReadsTable old raw new × Vetted raw (Ok t)
+
 -- a table that was written by vetting, by its verdict
 abbrev pub settled_by : Result (Unit {0}) ℕ → Table → Result Table Refused
 settled_by (Ok v) t = Ok t

@@ -1,6 +1,7 @@
 // Plans that ask for admission, and what the gate answers.
-ghost use Rattle.std.specs.Prelude.{ℕ, List};
-ghost use Rattle.cases.specs.Reading.{ReadsList, ReadsCertified};
+ghost use Rattle.std.specs.Prelude.{IfOk};
+ghost use Rattle.cases.specs.Raw.{ReadsVetted};
+ghost use Rattle.comparison.specs.Tables.{ReadsAdmission};
 
 use crate::vetting::vet_next;
 use anyhow::anyhow;
@@ -18,15 +19,20 @@ pub struct Admission {
 }
 
 // Vets the table that stands next into this one. One that is refused is an error.
-fn vet_good(numbers: &mut Numbers, table: &mut Table) -> anyhow::Result<()> {
-    vet_next(numbers, table)?.map_err(|_| anyhow!("a table is refused"))
+fn vet_good(numbers: &mut Numbers, table: &mut Table) -> anyhow::Result<()>
+    ensures { IfOk result (λ _. ReadsVetted numbers.old table.new numbers.new) }
+{
+    match vet_next(numbers, table)? {
+        Ok(()) => Ok(()),
+        Err(_) => Err(anyhow!("a table is refused")),
+    }
 }
 
 // PLAN PERMIT CERTIFICATE
 impl Written for Admission {
     type Fault = anyhow::Error;
 
-    ghost Reads = { λ old x new. (mid : List ℕ) × ReadsList ReadsCertified mid x.rows.items new };
+    ghost Reads = { ReadsAdmission };
 
     // an error here is only text, which says nothing of the numbers
     ghost Lacks = { λ _ _. Unit {0} };
@@ -55,6 +61,7 @@ pub(crate) fn judged(
 }
 
 // The answer to PLAN PERMIT CERTIFICATE.
+// Kept: a `?` would lay the two tables, some 3 KB, on the stack twice more.
 pub(crate) fn gated(heap: Global, numbers: &mut Numbers) -> anyhow::Result<String> {
     match Admission::read(numbers) {
         Ok(asked) => judged(heap, &asked.plan, &asked.permit, &asked.rows),

@@ -1,5 +1,6 @@
 // The calls of a history.
-ghost use Rattle.std.specs.Prelude.{◌≡◌, ℕ, ◌∷◌};
+ghost use Rattle.std.specs.Prelude.{◌≡◌, Some, None, MatchResult};
+ghost use Rattle.comparison.specs.Calls.{call_of, ReadsTurn};
 
 use anyhow::anyhow;
 use cases::{Numbers, Written};
@@ -18,6 +19,8 @@ pub enum Call {
 // CALL with its ARGUMENT
 impl TryFrom<(u8, u8)> for Call {
     type Error = anyhow::Error;
+
+    ghost try_from_gives = { λ written r. MatchResult r (λ call. call_of written.0 written.1 ≡ Some call) (λ _. call_of written.0 written.1 ≡ None) };
 
     fn try_from(written: (u8, u8)) -> anyhow::Result<Call> {
         match written {
@@ -43,7 +46,7 @@ pub struct Turn {
 impl Written for Turn {
     type Fault = anyhow::Error;
 
-    ghost Reads = { λ old x new. (kind : ℕ) × (argument : ℕ) × (old ≡ kind ∷ x.who ∷ argument ∷ new) };
+    ghost Reads = { ReadsTurn };
 
     // an error here is only text, which says nothing of the numbers
     ghost Lacks = { λ _ _. Unit {0} };

@@ -1,11 +1,19 @@
 // What vetting answers.
+ghost use Rattle.std.specs.Prelude.{IfOk};
+ghost use Rattle.comparison.specs.Tables.{VetsNext};
+
 use cases::{LineFault, Numbers, RawTable, Table, Written};
 use process::{Process, moves_of};
 use std::alloc::Global;
 use std::fmt;
 
 // Vets the table that stands next, into one that holds something before; or the number of the refusal.
-pub(crate) fn vet_next(numbers: &mut Numbers, table: &mut Table) -> Result<Result<(), u8>, LineFault> {
+pub(crate) fn vet_next(
+    numbers: &mut Numbers,
+    table: &mut Table,
+) -> Result<Result<(), u8>, LineFault>
+    ensures { IfOk result (VetsNext numbers.old table.new numbers.new) }
+{
     let raw = RawTable::read(numbers)?;
     raw.prepare(table);
     Ok(raw.vet_into(table))

@@ -1,4 +1,4 @@
-use Rattle.std.proofs.Common.{ℕ, List, ◌++◌}
+use Rattle.std.proofs.Common.{List, ◌++◌}
 use Rattle.std.specs.Str.Iter.{split_whitespace_rest}
 use Rattle.cases.specs.Line.{IsLine}
 use Rattle.cases.proofs.numbers.parsed.Given as goal
