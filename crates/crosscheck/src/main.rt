@@ -8,6 +8,7 @@ use cases::{LineFault, Numbers, RawTable, Spaced, Table, Written, answer_lines};
 use certificate::Row;
 use common::Numbered;
 use desk::{Found, find};
+use process::Process;
 use std::alloc::Global;
 
 // What a line asks for: ROWS MOTIONS PLAN PERMIT. Of a table it keeps what vetting answers.
@@ -43,7 +44,37 @@ fn told(fault: LineFault) -> anyhow::Error {
     }
 }
 
+// What the search of a plan against a permit answers.
+fn searched<P: Process, Q: Process>(
+    heap: Global,
+    case: &Case,
+    plan: &P,
+    permit: &Q,
+) -> anyhow::Result<String> {
+    let mut rows = vec![in heap; Row::empty(); case.rows as usize]?;
+    let mut motions = vec![in heap; 0u8; case.motions as usize]?;
+    match find(plan, permit, &mut rows, &mut motions) {
+        Ok(Found::Within(rows)) => Ok(format!(in heap; "within {}", rows.len())?),
+        Ok(Found::Beyond(motions)) => Ok(format!(in heap; "beyond{}", Spaced(motions))?),
+        Err(fault) => Ok(format!(in heap; "refused {}", fault.number())?),
+    }
+}
+
+// The same by the kind of the permit.
+fn against<P: Process>(
+    heap: Global,
+    case: &Case,
+    plan: &P,
+    permit: &Table,
+) -> anyhow::Result<String> {
+    match permit {
+        Table::Rows(permit) => searched(heap, case, plan, permit),
+        Table::Forms(permit) => searched(heap, case, plan, permit),
+    }
+}
+
 // The answer to a line.
+// Kept: the kinds are told apart once, since a search that asks the table for its kind at each move takes a quarter more.
 fn answered(heap: Global, line: &str) -> anyhow::Result<String> {
     let mut numbers = Numbers::of_short(heap, line)?;
     let mut plan = Table::new();
@@ -55,12 +86,9 @@ fn answered(heap: Global, line: &str) -> anyhow::Result<String> {
     if let Err(number) = case.permit {
         return Ok(format!(in heap; "permit {number}")?);
     }
-    let mut rows = vec![in heap; Row::empty(); case.rows as usize]?;
-    let mut motions = vec![in heap; 0u8; case.motions as usize]?;
-    match find(&plan, &permit, &mut rows, &mut motions) {
-        Ok(Found::Within(rows)) => Ok(format!(in heap; "within {}", rows.len())?),
-        Ok(Found::Beyond(motions)) => Ok(format!(in heap; "beyond{}", Spaced(motions))?),
-        Err(fault) => Ok(format!(in heap; "refused {}", fault.number())?),
+    match &plan {
+        Table::Rows(plan) => against(heap, &case, plan, &permit),
+        Table::Forms(plan) => against(heap, &case, plan, &permit),
     }
 }
 
